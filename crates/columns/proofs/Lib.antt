@@ -1,0 +1,14 @@
+pub mod Columns
+pub mod Compared
+pub mod Everyone
+pub mod InOrder
+pub mod Lacking
+pub mod Lists
+pub mod Members
+pub mod Rising
+pub mod SetNumbers
+pub mod Shrink
+pub mod Subsets
+pub mod Within
+pub mod Lowest
+pub mod Printed

@@ -1,0 +1,3 @@
+pub mod FineRules
+pub mod LeastRules
+pub mod LeastTold

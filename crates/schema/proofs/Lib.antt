@@ -1,0 +1,16 @@
+pub mod AlwaysOne
+pub mod ChaseComplete
+pub mod ChaseSound
+pub mod Chased
+pub mod Conditions
+pub mod Covering
+pub mod Faults
+pub mod Looks
+pub mod Lossless
+pub mod Mending
+pub mod Stages
+pub mod Synthesis
+pub mod ThirdDecided
+pub mod ThirdForms
+pub mod TwoParts
+pub mod Verdicts

@@ -1,0 +1,22 @@
+-- Parts made from rules and sets of columns. Assumes nothing: these are definitions.
+use mathlib.Core.Bool.{Bool, _&&_}
+use mathlib.Core.List.{List, [], _∷_}
+use Rattle.columns.specs.Cols.{Cols, all-in, pick}
+use Rattle.dependencies.specs.Tables.{Dep}
+use Rattle.schema.specs.Design.{Part}
+
+abbrev pub lies : Dep → Cols → Bool
+lies d x = all-in (d .left) x && all-in (d .right) x
+
+abbrev pub lying : List Dep → Cols → List Dep
+lying [] x = []
+lying (m ∷ ms) x = pick (lies m x) (m ∷ lying ms x) (lying ms x)
+
+abbrev pub left-over : List Dep → Cols → List Dep
+left-over [] x = []
+left-over (m ∷ ms) x = pick (lies m x) (left-over ms x) (m ∷ left-over ms x)
+
+-- each set with the rules that lie in it, and in no set before it
+abbrev pub parts-of : List Dep → List Cols → List Part
+parts-of ms [] = []
+parts-of ms (x ∷ xs) = record { cols = x; rules = lying ms x } ∷ parts-of (left-over ms x) xs

@@ -1,0 +1,10 @@
+// Designs: the parts into which a table is laid, each with rules of its own.
+mod theorems;
+
+pub use theorems::chase_decides;
+pub use theorems::design_always_exists;
+pub use theorems::design_always_fits;
+pub use theorems::key_part_enough;
+pub use theorems::third_form_decided;
+pub use theorems::two_parts_lossless;
+pub use theorems::verdict_pinned;
