@@ -16,3 +16,4 @@ pub mod Pairs
 pub mod Refuting
 pub mod Differing
 pub mod Asking
+pub mod Lent

@@ -6,3 +6,4 @@ pub mod Rules
 pub mod Layout
 pub mod Reads
 pub mod Meaning
+pub mod Lent
