@@ -14,3 +14,5 @@ pub mod ThirdDecided
 pub mod ThirdForms
 pub mod TwoParts
 pub mod Verdicts
+pub mod Gathering
+pub mod Sifting

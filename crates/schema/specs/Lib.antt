@@ -1,7 +1,9 @@
 pub mod Chase
 pub mod Decided
 pub mod Design
+pub mod Gathers
 pub mod Layout
 pub mod Judge
 pub mod Made
+pub mod Sets
 pub mod Theorems

@@ -1,6 +1,10 @@
 // Designs: the parts into which a table is laid, each with rules of its own.
+mod merging;
+mod part_sets;
 mod theorems;
+mod unplaced;
 
+pub use part_sets::PartSets;
 pub use theorems::chase_decides;
 pub use theorems::design_always_exists;
 pub use theorems::design_always_fits;
@@ -8,3 +12,4 @@ pub use theorems::key_part_enough;
 pub use theorems::third_form_decided;
 pub use theorems::two_parts_lossless;
 pub use theorems::verdict_pinned;
+pub use unplaced::Unplaced;
