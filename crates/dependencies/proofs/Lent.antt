@@ -22,7 +22,7 @@ unfolding put-list
 put-full xs n [] h = refl
 put-full xs n (y ∷ ys) h = rw (set-past xs n y h) (put-full xs (suc n) ys (omega arith))
 
-put-cons : (x : ℕ) (xs : List ℕ) (n : ℕ) (ys : List ℕ) → put-list (x ∷ xs) (suc n) ys ≡ x ∷ put-list xs n ys
+pub put-cons : (x : ℕ) (xs : List ℕ) (n : ℕ) (ys : List ℕ) → put-list (x ∷ xs) (suc n) ys ≡ x ∷ put-list xs n ys
 unfolding put-list
 put-cons x xs n [] = refl
 put-cons x xs n (y ∷ ys) = put-cons x (set xs n y) (suc n) ys
