@@ -16,3 +16,4 @@ pub mod TwoParts
 pub mod Verdicts
 pub mod Gathering
 pub mod Sifting
+pub mod Written

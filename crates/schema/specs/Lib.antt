@@ -7,3 +7,4 @@ pub mod Judge
 pub mod Made
 pub mod Sets
 pub mod Theorems
+pub mod Writing

@@ -1,4 +1,5 @@
 // Designs: the parts into which a table is laid, each with rules of its own.
+mod layout;
 mod merging;
 mod part_sets;
 mod theorems;
