@@ -28,9 +28,13 @@ unfoldable pub Keys-one : Type 0
 Keys-one =
     (ds : List Dep) (p : Cols) (ks js : List Cols) → Rising p → All-keys ds p ks → All-keys ds p js → (ks ≡ js) × (0 < length ks)
 
+-- it does not fix p without any one of its columns
+abbrev pub needed? : List Dep → Cols → Cols → Bool
+needed? ds p k = every k (λ a. not (fixes? ds (less k a) p))
+
 -- it fixes p, and without any one of its columns does not
 abbrev pub key? : List Dep → Cols → Cols → Bool
-key? ds p k = fixes? ds k p && every k (λ a. not (fixes? ds (less k a) p))
+key? ds p k = fixes? ds k p && needed? ds p k
 
 abbrev pub all-keys? : List Dep → Cols → List Cols → Bool
 all-keys? ds p ks =

@@ -1,4 +1,10 @@
 // Keys: sets of columns that fix a set, and of which no smaller part does.
+mod branch;
+mod branching;
+mod first;
+mod fixing;
+mod pruning;
 mod theorems;
 
+pub use first::first_key;
 pub use theorems::keys_are_one;
