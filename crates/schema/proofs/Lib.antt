@@ -17,3 +17,6 @@ pub mod Verdicts
 pub mod Gathering
 pub mod Sifting
 pub mod Written
+pub mod Wide
+pub mod Merged
+pub mod Making
