@@ -1,3 +1,4 @@
 pub mod FineRules
+pub mod Keeping
 pub mod LeastRules
 pub mod LeastTold
