@@ -2,7 +2,7 @@
 use mathlib.Core.Path.{_≡_, refl, sym, ap, subst, _∙_}
 use mathlib.Core.List.{List, [], _∷_, _++_, append-assoc}
 use mathlib.Core.Logic.{_⊎_, inl, inr}
-use Prim.Native.Nat.{ℕ, suc}
+use Prim.Native.Nat.{ℕ, _-_, _<_}
 use native.Mathlib.Omega.{arith}
 use lib.ListN.{length, length-append}
 use Rattle.std.proofs.shelf.Lists.{append-nil}
@@ -52,7 +52,7 @@ module _ {A : Type 0} (redundant : List A → A → Type 0) (laws : Redundancy-l
       → Trimming redundant fs todo kept
   trimming-leave fs x todo kept t f =
       let all : (v : A) → In v (x ∷ (todo ++ kept)) → redundant (todo ++ kept) v
-          = λ m i. elim i [ inl e ↦ subst (λ v. redundant (todo ++ kept) v) e f | inr j ↦ laws .own (todo ++ kept) m j ] in
+      = λ m i. elim i [ inl e ↦ subst (λ v. redundant (todo ++ kept) v) e f | inr j ↦ laws .own (todo ++ kept) m j ] in
       record {
         covers = λ m i. laws .through (todo ++ kept) (x ∷ (todo ++ kept)) all m (t .covers m i);
         inside = λ m i. t .inside m (inr i);
@@ -96,9 +96,65 @@ module _ {A : Type 0} (redundant : List A → A → Type 0) (laws : Redundancy-l
             | inl e ↦ in-right todo (kept ++ x ∷ []) d (in-right kept (x ∷ []) d (inl e))
             | inr j ↦ sub-front todo kept (kept ++ x ∷ []) (λ v k. in-left kept (x ∷ []) v k) d j
           ]
+
       back : Sub (todo ++ (kept ++ x ∷ [])) (x ∷ (todo ++ kept))
       back d i =
           elim (in-either todo (kept ++ x ∷ []) d i) [
             | inl a ↦ inr (in-left todo kept d a)
             | inr a ↦ elim (in-either kept (x ∷ []) d a) [ inl b ↦ inr (in-right todo kept d b) | inr b ↦ elim b [ inl e ↦ inl e | inr z ↦ absurd z ] ]
           ]
+
+  -- of the items, the first ones are still to be asked about
+  pub record Turning (fs items : List A) (left : ℕ) : Type 0 where
+    pub todo : List A
+    pub kept : List A
+    pub is : items ≡ todo ++ kept
+    pub long : length todo ≡ left
+    pub state : Trimming redundant fs todo kept
+
+  pub turning-start : (fs : List A) → Turning fs fs (length fs)
+  turning-start fs = record { todo = fs; kept = []; is = sym (append-nil fs); long = refl; state = trimming-start fs }
+
+  front : (todo kept : List A) (x : A) (rest : List A) (left : ℕ) → length todo ≡ left → 0 < left → x ∷ rest ≡ todo ++ kept
+      → (us : List A) × (todo ≡ x ∷ us) × (rest ≡ us ++ kept) × (length us ≡ left - 1)
+  front [] kept x rest left l h e = absurd (omega arith)
+  front (t ∷ todo) kept x rest left l h e = (todo, (let q : t ≡ x = cc in ap (λ v. v ∷ todo) q), (cc), omega arith)
+
+  pub turning-drop : (fs items : List A) (left : ℕ) (x : A) (rest : List A) → Turning fs items left → 0 < left → items ≡ x ∷ rest → redundant rest x
+      → Turning fs rest (left - 1)
+  turning-drop fs items left x rest t h e f =
+      let r = front (t .todo) (t .kept) x rest left (t .long) h (sym e ∙ t .is) in
+      record {
+        todo = r .0;
+        kept = t .kept;
+        is = r .2;
+        long = r .3;
+        state = trimming-leave fs x (r .0) (t .kept) (subst (λ v. Trimming redundant fs v (t .kept)) (r .1) (t .state)) (subst (λ v. redundant v x) (r .2) f);
+      }
+
+  pub turning-keep : (fs items : List A) (left : ℕ) (x : A) (rest after : List A) → Turning fs items left → 0 < left → items ≡ x ∷ rest
+      → (redundant rest x → ⊥) → after ≡ rest ++ x ∷ [] → Turning fs after (left - 1)
+  turning-keep fs items left x rest after t h e f a =
+      let r = front (t .todo) (t .kept) x rest left (t .long) h (sym e ∙ t .is) in
+      record {
+        todo = r .0;
+        kept = t .kept ++ x ∷ [];
+        is = a ∙ ap (λ v. v ++ x ∷ []) (r .2) ∙ append-assoc (r .0) (t .kept) (x ∷ []);
+        long = r .3;
+        state = trimming-keep fs x (r .0) (t .kept) (subst (λ v. Trimming redundant fs v (t .kept)) (r .1) (t .state)) (λ g. f (subst (λ v. redundant v x) (sym (r .2)) g));
+      }
+
+  none-left : (fs todo kept items : List A) → items ≡ todo ++ kept → length todo ≡ 0 → Trimming redundant fs todo kept → Trimmed redundant fs items
+  none-left fs [] kept items e l s = subst (λ v. Trimming redundant fs [] v) (sym e) s
+  none-left fs (t ∷ todo) kept items e l s = absurd (omega arith)
+
+  pub turning-end : (fs items : List A) (left : ℕ) → Turning fs items left → left ≡ 0 → Trimmed redundant fs items
+  turning-end fs items left t h = none-left fs (t .todo) (t .kept) items (t .is) (t .long ∙ h) (t .state)
+
+  nothing-todo : (todo kept : List A) → 0 < length todo → [] ≡ todo ++ kept → ⊥
+  nothing-todo [] kept h e = omega arith
+  nothing-todo (t ∷ todo) kept h e = let z : _≡_ {A = ℕ} 0 1 = cc in omega arith
+
+  -- while some are left it is not empty
+  pub turning-some : (fs items : List A) (left : ℕ) → Turning fs items left → 0 < left → items ≡ [] → ⊥
+  turning-some fs items left t h e = nothing-todo (t .todo) (t .kept) (omega (arith, t .long)) (sym e ∙ t .is)
