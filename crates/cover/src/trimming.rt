@@ -9,7 +9,7 @@ pub trait Redundancy: Copy {
     // Beside the members of the list this one is not needed.
     ghost redundant: { List Self → Self → Type 0 };
 
-    ghost laws: { Redundancy-laws redundant };
+    law laws: { Redundancy-laws redundant };
 
     fn is_redundant(self, others: &[Self]) -> bool
         ensures { λ r. ⌜ Decides (redundant (now (others .entry)) self) r ⌝ };

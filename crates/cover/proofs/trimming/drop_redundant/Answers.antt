@@ -14,14 +14,14 @@ loop-left-holds g c =
     let q = c .args .queue .now in
     let e = c .items-left .ensures in
     let n : length (c .items-left .result .now) ≡ length (queued q) = ap length e in (
-      subst (λ (k : ℕ). Turning (g .T·Redundancy .redundant) (g .T·Redundancy .laws) (queued q) (queued q) k) (sym n)
-          (turning-start (g .T·Redundancy .redundant) (g .T·Redundancy .laws) (queued q)),
+      subst (λ (k : ℕ). Turning (g .T·Redundancy .redundant) (g .T·Redundancy·met .laws) (queued q) (queued q) k) (sym n)
+          (turning-start (g .T·Redundancy .redundant) (g .T·Redundancy·met .laws) (queued q)),
       omega (arith, n, length-take (q .end - q .first) (drop (q .first) (q .cells)), c .pre),
     )
 
 pub returns-in-rest : need.returns-in-rest
 returns-in-rest g c =
-    absurd (turning-some (g .T·Redundancy .redundant) (g .T·Redundancy .laws) _ _ (c .loop-left .left) (c .loop-left .inv .0) (omega arith) (c .in-rest .ensures tt .0))
+    absurd (turning-some (g .T·Redundancy .redundant) (g .T·Redundancy·met .laws) _ _ (c .loop-left .left) (c .loop-left .inv .0) (omega arith) (c .in-rest .ensures tt .0))
 
 pub push-requires : need.push-requires
 push-requires g c κs = omega (arith, c .in-Some .ensures tt .1, c .loop-left .inv .1)
@@ -29,7 +29,7 @@ push-requires g c κs = omega (arith, c .in-Some .ensures tt .1, c .loop-left .i
 pub loop-left-again : need.loop-left-again
 loop-left-again g c =
     let R = g .T·Redundancy .redundant in
-    let L = g .T·Redundancy .laws in
+    let L = g .T·Redundancy·met .laws in
     let fs = queued (c .args .queue .now) in
     let t = c .loop-left .inv .0 in
     let h : 0 < c .loop-left .left = omega arith in
@@ -51,4 +51,4 @@ loop-left-again g c =
     ]
 
 pub returns : need.returns
-returns g c = turning-end (g .T·Redundancy .redundant) (g .T·Redundancy .laws) _ _ (c .loop-left .left) (c .loop-left .inv .0) (omega arith)
+returns g c = turning-end (g .T·Redundancy .redundant) (g .T·Redundancy·met .laws) _ _ (c .loop-left .left) (c .loop-left .inv .0) (omega arith)
