@@ -1,3 +1,10 @@
 pub mod FineRules
+pub mod Keeping
+pub mod LeastMade
 pub mod LeastRules
 pub mod LeastTold
+pub mod Narrow
+pub mod ProperRules
+pub mod Queues
+pub mod RuleLists
+pub mod Splitting

@@ -1,1 +1,5 @@
+pub mod Fine
+pub mod Held
 pub mod Least
+pub mod Queued
+pub mod Trimmed

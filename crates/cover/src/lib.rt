@@ -1,4 +1,17 @@
 // Least sets of rules.
+mod fine;
+mod held;
+mod least;
+mod queue;
+mod queueing;
+mod redundant_rules;
 mod theorems;
+mod trimming;
 
+pub use held::Cover;
+pub use least::least_cover;
+pub use queue::Queue;
+pub use redundant_rules::RuleRedundancy;
 pub use theorems::least_set_exists;
+pub use trimming::Redundancy;
+pub use trimming::drop_redundant;

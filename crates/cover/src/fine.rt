@@ -1,0 +1,75 @@
+// Fine rules: one right column each, and no left column that it does not need.
+ghost use mathlib.Core.Path.{_≡_};
+ghost use mathlib.Core.Bool.{true};
+ghost use Prim.Native.Nat.{_+_, _*_, _≤_};
+ghost use lib.ListN.{length};
+ghost use Rattle.columns.specs.Cols.{has};
+ghost use Rattle.columns.specs.Sets.{cols};
+ghost use Rattle.dependencies.specs.Closure.{closure as closure-of};
+ghost use Rattle.dependencies.specs.Reads.{rules-of};
+ghost use Rattle.dependencies.specs.Rules.{dep, deps};
+ghost use Rattle.cover.specs.Fine.{Reduced, Splits, All-split};
+ghost use Rattle.cover.specs.Queued.{queued};
+use crate::queue::Queue;
+use columns::Column;
+use columns::ColumnSet;
+use dependencies::Rule;
+use dependencies::RuleSet;
+use dependencies::closure;
+
+// Whether the columns fix the column b.
+fn fixes(rules: &[Rule], left: ColumnSet, b: Column) -> bool
+    ensures { λ r. ⌜ r ≡ has (closure-of (deps (now (rules .entry))) (cols left)) (b .index) ⌝ }
+{
+    closure(rules, left).contains(b)
+}
+
+// As few of the left columns as still fix the column b, if they all do: each in turn is left out if the others do without it.
+fn reduce(rules: &[Rule], left: ColumnSet, b: Column) -> ColumnSet
+    ensures { λ r. ⌜ (has (closure-of (deps (now (rules .entry))) (cols left)) (b .index) ≡ true → Reduced (deps (now (rules .entry))) (cols left) (b .index) (cols r)) ⌝ }
+{
+    let mut needed = left;
+    let mut todo = left;
+    while let Some(c) = todo.take_first() {
+        let less = needed.without(c);
+        if fixes(rules, less, b) {
+            needed = less;
+        }
+    }
+    needed
+}
+
+// Adds a fine rule for each right column of the rule. What one of them can do without, another may need, so each has a left side of its own.
+fn split_rule(rules: &[Rule], rule: Rule, queue: &mut Queue<Rule>)
+    requires { ⌜ now queue .end + length (cols (rule .right)) ≤ 1026 ⌝ }
+    ensures says { λ _. ⌜ Splits (deps (now (rules .entry))) (dep rule) (deps (queued (now (queue .entry)))) (deps (queued (now (queue .exit)))) ⌝ }
+    ensures first { λ _. ⌜ now (queue .exit) .first ≡ now (queue .entry) .first ⌝ }
+    ensures end { λ _. ⌜ now (queue .exit) .end ≡ now (queue .entry) .end + length (cols (rule .right)) ⌝ }
+{
+    let mut todo = rule.right;
+    while let Some(b) = todo.take_first() {
+        let left = reduce(rules, rule.left, b);
+        queue.push(Rule {
+            left,
+            right: ColumnSet::single(b),
+        });
+    }
+}
+
+// Fine rules that say what the given rules say, in the order of these and of their right columns.
+pub(crate) fn split(set: &RuleSet) -> Queue<Rule>
+    ensures says { λ r. ⌜ All-split (deps (rules-of (now (set .entry)))) (deps (rules-of (now (set .entry)))) (deps (queued r)) ⌝ }
+    ensures first { λ r. ⌜ r .first ≡ 0 ⌝ }
+    ensures few { λ r. ⌜ r .end ≤ now (set .entry) .width .columns * now (set .entry) .count ⌝ }
+{
+    let nothing = ColumnSet::empty();
+    let mut queue = Queue::new(Rule {
+        left: nothing,
+        right: nothing,
+    });
+    let rules = set.rules();
+    for rule in rules {
+        split_rule(rules, *rule, &mut queue);
+    }
+    queue
+}
