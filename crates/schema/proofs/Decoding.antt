@@ -86,7 +86,7 @@ read-parts n rs (s ∷ ss) tail h f g =
     ∙ ap (λ (v : List Dep). record { cols = set-in 0 n (s .bits); rules = v } ∷ parts-in n (length ss) (E ++ tail)) (read-rules n O′ (E ++ tail) h (λ x i. f x (those-sub (in-set s) rs x i)) ∙ own-deps rs s)
     ∙ ap (λ (v : Cols). record { cols = v; rules = lying (deps rs) (cols s) } ∷ parts-in n (length ss) (E ++ tail)) (sym (cols-narrow s n h (g s (inl refl))))
     ∙ ap (λ (v : List Part). record { cols = cols s; rules = lying (deps rs) (cols s) } ∷ v)
-      (read-parts n (over rs s) ss tail h (λ x i. f x (others-sub (in-set s) rs x i)) (λ x i. g x (inr i)) ∙ ap (λ (v : List Dep). parts-of v (sets-of ss)) (over-deps rs s))
+    (read-parts n (over rs s) ss tail h (λ x i. f x (others-sub (in-set s) rs x i)) (λ x i. g x (inr i)) ∙ ap (λ (v : List Dep). parts-of v (sets-of ss)) (over-deps rs s))
 
 pub read-extent : (rs : List Rule) (ss : List ColumnSet) (tail : List ℕ) → extent (length ss) (encoded rs ss ++ tail) ≡ length (encoded rs ss)
 unfolding extent
@@ -106,6 +106,6 @@ read-fit n rs (s ∷ ss) tail f g =
     let O′ : List Rule = own rs s in
     ap (λ (v : List ℕ). parts-fit n (suc (length ss)) v) (row-is rs s E tail)
     ∙ and-from _ _
-      (and-from _ _ (lt-ltb (s .bits) (2 ^ n) (g s (inl refl)))
-        (ap (λ (k : ℕ). sets-fit n k (flat O′ ++ (E ++ tail))) (sym (flat-length O′)) ∙ fit-rules n O′ (E ++ tail) (λ x i. f x (those-sub (in-set s) rs x i))))
-      (ap (λ (v : List ℕ). parts-fit n (length ss) v) (behind rs s E tail) ∙ read-fit n (over rs s) ss tail (λ x i. f x (others-sub (in-set s) rs x i)) (λ x i. g x (inr i)))
+    (and-from _ _ (lt-ltb (s .bits) (2 ^ n) (g s (inl refl)))
+    (ap (λ (k : ℕ). sets-fit n k (flat O′ ++ (E ++ tail))) (sym (flat-length O′)) ∙ fit-rules n O′ (E ++ tail) (λ x i. f x (those-sub (in-set s) rs x i))))
+    (ap (λ (v : List ℕ). parts-fit n (length ss) v) (behind rs s E tail) ∙ read-fit n (over rs s) ss tail (λ x i. f x (others-sub (in-set s) rs x i)) (λ x i. g x (inr i)))

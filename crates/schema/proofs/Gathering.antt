@@ -56,4 +56,3 @@ gathered-turn es l s m t g j =
                 [ inl z ↦ inl z | inr w ↦ inr (w .0, in-left es (m ∷ []) (w .0) (w .1), w .2, w .3) ];
           }
     ]
-

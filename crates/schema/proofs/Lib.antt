@@ -20,3 +20,6 @@ pub mod Written
 pub mod Wide
 pub mod Merged
 pub mod Making
+pub mod Decoding
+pub mod Fitting
+pub mod Telling

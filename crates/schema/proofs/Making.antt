@@ -50,10 +50,10 @@ module _ (n : ℕ) (ds ms : List Dep) (least : Least ds ms) (xs : List Cols) (fi
       record {
         enough = λ t o.
             let mo : Obeys-all t ms
-                = each-obeys t ms (λ m h.
-                let w = fit .held m h in
-                obeys-each t (all-rules ps) o m
-                (rules-parts ms xs m h (w .0) (w .1) (λ c i. w .2 c (in-left (m .left) (m .right) c i)) (λ c i. w .2 c (in-right (m .left) (m .right) c i)))) in
+            = each-obeys t ms (λ m h.
+            let w = fit .held m h in
+            obeys-each t (all-rules ps) o m
+            (rules-parts ms xs m h (w .0) (w .1) (λ c i. w .2 c (in-left (m .left) (m .right) c i)) (λ c i. w .2 c (in-right (m .left) (m .right) c i)))) in
             each-obeys t ds (λ d h. least .same d .0 (member-follows ds d h) t mo);
         no-more = λ t o. each-obeys t (all-rules ps) (λ d h. least .same d .1 (member-follows ms d (parts-rules ms xs d h)) t o);
         own = λ i j h k.

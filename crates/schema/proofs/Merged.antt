@@ -76,6 +76,7 @@ module _ (ds ms : List Dep) (least : Least ds ms) where
       there : (ws : List Dep) → getD (ws ++ m ∷ vs) (length ws) no-dep ≡ m
       there [] = refl
       there (w ∷ ws) = there ws
+
       fits : (ws : List Dep) → length ws < length (ws ++ m ∷ vs)
       fits [] = omega arith
       fits (w ∷ ws) = let h : length ws < length (ws ++ m ∷ vs) = fits ws in omega arith
@@ -110,42 +111,42 @@ module _ (ds ms : List Dep) (least : Least ds ms) where
         let vs = sp .1 in
         let rest : List Dep = us ++ vs in
         let apart : (d : Dep) → In d ms → In d rest ⊎ (m ≡ d)
-            = λ d k.
-            elim (in-either us (m ∷ vs) d (subst (λ v. In d v) (sp .2) k)) [
-              | inl y ↦ inl (in-left us vs d y)
-              | inr y ↦ elim y [ inl q ↦ inr q | inr z ↦ inl (in-right us vs d z) ]
-            ] in
+        = λ d k.
+        elim (in-either us (m ∷ vs) d (subst (λ v. In d v) (sp .2) k)) [
+          | inl y ↦ inl (in-left us vs d y)
+          | inr y ↦ elim y [ inl q ↦ inr q | inr z ↦ inl (in-right us vs d z) ]
+        ] in
         let rest-ms : Sub rest ms
-            = λ d k.
-            subst (λ v. In d v) (sym (sp .2))
-            (elim (in-either us vs d k) [ inl y ↦ in-left us (m ∷ vs) d y | inr y ↦ in-right us (m ∷ vs) d (inr y) ]) in
+        = λ d k.
+        subst (λ v. In d v) (sym (sp .2))
+        (elim (in-either us vs d k) [ inl y ↦ in-left us (m ∷ vs) d y | inr y ↦ in-right us (m ∷ vs) d (inr y) ]) in
         let b = right-one m i in
         let only : (c : ℕ) → In c (m .right) → a ≡ c
-            = λ c k.
-            let p : In c (b .0 ∷ []) = subst (λ v. In c v) (b .1) k in
-            let q : In a (b .0 ∷ []) = subst (λ v. In a v) (b .1) h in
-            elim p [ inl y ↦ elim q [ inl z ↦ sym z ∙ y | inr z ↦ absurd z ] | inr y ↦ absurd y ] in
+        = λ c k.
+        let p : In c (b .0 ∷ []) = subst (λ v. In c v) (b .1) k in
+        let q : In a (b .0 ∷ []) = subst (λ v. In a v) (b .1) h in
+        elim p [ inl y ↦ elim q [ inl z ↦ sym z ∙ y | inr z ↦ absurd z ] | inr y ↦ absurd y ] in
         let small : Sub (closure rest x) (closure ds x)
-            = λ c k.
-            to-ds x c (closure-sound rest (λ v. In v (closure ms x)) (λ d y. closure-closed ms x d (rest-ms d y)) x (closure-grows ms x) c k) in
+        = λ c k.
+        to-ds x c (closure-sound rest (λ v. In v (closure ms x)) (λ d y. closure-closed ms x d (rest-ms d y)) x (closure-grows ms x) c k) in
         let large : Sub (closure ms x) (closure rest x)
-            = closure-sound ms (λ v. In v (closure rest x))
-            (λ d y f.
-            elim (apart d y) [
-              | inl z ↦ closure-closed rest x d z f
-              | inr z ↦ absurd (no· (λ c k. small c (f c (subst (λ v. In c (v .left)) z (subst (λ v. In c v) (sym e) k)))))
-            ])
-            x (closure-grows rest x) in
+        = closure-sound ms (λ v. In v (closure rest x))
+        (λ d y f.
+        elim (apart d y) [
+          | inl z ↦ closure-closed rest x d z f
+          | inr z ↦ absurd (no· (λ c k. small c (f c (subst (λ v. In c (v .left)) z (subst (λ v. In c v) (sym e) k)))))
+        ])
+        x (closure-grows rest x) in
         let from-left : Sub x (closure rest l)
-            = λ c k.
-            elim (g .no-more c (xs c k)) [
-              | inl y ↦ closure-grows rest l c y
-              | inr w ↦
-                  elim (apart (w .0) (w .1)) [
-                    | inl z ↦ closure-closed rest l (w .0) z (λ v y. closure-grows rest l v (subst (λ u. In v u) (w .2) y)) c (w .3)
-                    | inr z ↦ absurd (na (subst (λ v. In v x) (sym (only c (subst (λ v. In c (v .right)) (sym z) (w .3)))) k))
-                  ]
-            ] in
+        = λ c k.
+        elim (g .no-more c (xs c k)) [
+          | inl y ↦ closure-grows rest l c y
+          | inr w ↦
+              elim (apart (w .0) (w .1)) [
+                | inl z ↦ closure-closed rest l (w .0) z (λ v y. closure-grows rest l v (subst (λ u. In v u) (w .2) y)) c (w .3)
+                | inr z ↦ absurd (na (subst (λ v. In v x) (sym (only c (subst (λ v. In c (v .right)) (sym z) (w .3)))) k))
+              ]
+        ] in
         let got : In a (closure rest l) = closure-through rest l x from-left a (large a (to-ms x a fixed)) in
         no-follow m i us vs (sp .2)
         (closure-implied rest m (λ c k. subst (λ v. In c (closure rest v)) (sym e) (subst (λ v. In v (closure rest l)) (only c k) got)))

@@ -80,12 +80,14 @@ module _ (k : ColumnSet) where
 
 apart-push : (xs : List Cols) (x : Cols) → Apart xs → ((y : Cols) → In y xs → (Sub y x → ⊥) × (Sub x y → ⊥)) → Apart (xs ++ x ∷ [])
 apart-push [] x a f = (λ y i. absurd i, tt)
-apart-push (z ∷ xs) x a f =
-    (λ y i.
-    elim (in-either xs (x ∷ []) y i) [
-      | inl h ↦ a .0 y h
-      | inr h ↦ elim h [ inl e ↦ subst (λ v. (Sub z v → ⊥) × (Sub v z → ⊥)) e (f z (inl refl)) | inr n ↦ absurd n ]
-    ], apart-push xs x (a .1) (λ y i. f y (inr i)))
+apart-push (z ∷ xs) x a f = (
+  λ y i.
+      elim (in-either xs (x ∷ []) y i) [
+        | inl h ↦ a .0 y h
+        | inr h ↦ elim h [ inl e ↦ subst (λ v. (Sub z v → ⊥) × (Sub v z → ⊥)) e (f z (inl refl)) | inr n ↦ absurd n ]
+      ],
+  apart-push xs x (a .1) (λ y i. f y (inr i)),
+)
 
 -- none inside another, by their places
 pub apart-places : (xs : List Cols) → Apart xs → (i j : ℕ) → i < length xs → j < length xs → Sub (getD xs i []) (getD xs j []) → i ≡ j
@@ -123,21 +125,21 @@ module _ (Kind : Cols → Type 0) (es : List Dep) (ss : List ColumnSet) (k : Col
   with-it : Holding Kind es (sets-of ss) → Kind (cols k) → held? ss k ≡ false → More longer
   unfolding sets-of
   with-it h kind e = (
-      record {
-        each = λ x i. elim (in-longer x i) [ inl a ↦ h .each x (outside-sub k ss x a .0) | inr q ↦ subst Kind q kind ];
-        held = λ m i.
-            let r = h .held m i in
-            elim (outside-or-inside k ss (r .0) (r .1)) [
-              | inl a ↦ (r .0, left-longer (r .0) a, r .2)
-              | inr f ↦ (cols k, last-longer, λ c j. f c (r .2 c j))
-            ];
-        apart =
-            subst Apart (sym (sets-append (outside ss k) (k ∷ [])))
-            (apart-push (sets-of (outside ss k)) (cols k) (outside-apart k ss (h .apart)) (λ y i.
-            let r = outside-sub k ss y i in (r .1, not-held ss k e y (r .0))));
-      },
-      (cols k, last-longer, λ c i. i),
-    )
+    record {
+      each = λ x i. elim (in-longer x i) [ inl a ↦ h .each x (outside-sub k ss x a .0) | inr q ↦ subst Kind q kind ];
+      held = λ m i.
+          let r = h .held m i in
+          elim (outside-or-inside k ss (r .0) (r .1)) [
+            | inl a ↦ (r .0, left-longer (r .0) a, r .2)
+            | inr f ↦ (cols k, last-longer, λ c j. f c (r .2 c j))
+          ];
+      apart =
+          subst Apart (sym (sets-append (outside ss k) (k ∷ [])))
+          (apart-push (sets-of (outside ss k)) (cols k) (outside-apart k ss (h .apart)) (λ y i.
+          let r = outside-sub k ss y i in (r .1, not-held ss k e y (r .0))));
+    },
+    (cols k, last-longer, λ c i. i),
+  )
 
   pub one-more : Holding Kind es (sets-of ss) → Kind (cols k) → More (with-set ss k)
   one-more h kind = pick-both (held? ss k) ss longer More (as-it-was h) (with-it h kind)

@@ -155,5 +155,5 @@ unfolding put-list
 partly-end rs sets out₀ p at rest out k h so =
     let none : drop p sets ≡ [] = drop-all p sets h in
     let all : so .done ≡ encoded rs sets
-        = sym (append-nil (so .done)) ∙ ap (λ (v : List ColumnSet). so .done ++ encoded rest v) (sym none) ∙ so .left in
+    = sym (append-nil (so .done)) ∙ ap (λ (v : List ColumnSet). so .done ++ encoded rest v) (sym none) ∙ so .left in
     ap (λ (v : List ℕ). set v 0 k) (so .out-is) ∙ set-put out₀ 1 0 k (so .done) (omega arith) ∙ ap (λ (v : List ℕ). put-list (set out₀ 0 k) 1 v) all

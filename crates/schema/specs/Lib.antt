@@ -1,10 +1,12 @@
 pub mod Chase
 pub mod Decided
 pub mod Design
+pub mod Designed
 pub mod Gathers
 pub mod Layout
 pub mod Judge
 pub mod Made
+pub mod Plans
 pub mod Sets
 pub mod Theorems
 pub mod Writing

@@ -4,6 +4,9 @@
 ghost use mathlib.Core.Path.{_≡_};
 ghost use Prim.Native.Nat.{_+_, _<_, _≤_};
 ghost use lib.ListN.{length};
+ghost use Rattle.columns.specs.Cols.{columns as range-of};
+ghost use Rattle.columns.specs.Sets.{cols};
+ghost use Rattle.dependencies.specs.Closure.{fixes?};
 ghost use Rattle.dependencies.specs.Reads.{rules-of};
 ghost use Rattle.dependencies.specs.Rules.{deps};
 ghost use Rattle.cover.specs.Held.{cover-rules};
@@ -50,13 +53,19 @@ fn merge_left_sides(cover: &Cover) -> PartSets
     sets
 }
 
-// Whether one of the sets fixes all columns of the table.
+// Whether the set fixes all columns of the table.
+fn fixes_all(set: &RuleSet, part: ColumnSet) -> bool
+    ensures { λ r. ⌜ r ≡ fixes? (deps (rules-of (now (set .entry)))) (cols part) (range-of 0 (now (set .entry) .width .columns)) ⌝ }
+{
+    ColumnSet::all(set.width()).is_subset(closure(set.rules(), part))
+}
+
+// Whether one of the sets does.
 fn some_fixes(set: &RuleSet, parts: &[ColumnSet]) -> bool
     ensures { λ r. ⌜ r ≡ some-fixes? (now (set .entry) .width .columns) (deps (rules-of (now (set .entry)))) (now (parts .entry)) ⌝ }
 {
-    let all = ColumnSet::all(set.width());
     for part in parts {
-        if all.is_subset(closure(set.rules(), *part)) {
+        if fixes_all(set, *part) {
             return true;
         }
     }

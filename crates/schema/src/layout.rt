@@ -18,6 +18,23 @@ fn lies(rule: Rule, set: ColumnSet) -> bool
 }
 
 impl Unplaced {
+    // All rules of a least set.
+    pub(crate) fn all(rules: &[Rule]) -> Self
+        requires { ⌜ length (now rules) ≤ 512 ⌝ }
+        ensures { λ r. ⌜ left-in r ≡ now (rules .entry) ⌝ }
+    {
+        let nothing = ColumnSet::empty();
+        let mut held = [Rule {
+            left: nothing,
+            right: nothing,
+        }; 512];
+        held[..rules.len()].copy_from_slice(rules);
+        Unplaced {
+            rules: held,
+            count: rules.len(),
+        }
+    }
+
     fn rules(&self) -> &[Rule]
         ensures { λ r. ⌜ now r ≡ left-in (now (self .entry)) ⌝ }
     {

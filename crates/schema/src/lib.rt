@@ -1,11 +1,17 @@
 // Designs: the parts into which a table is laid, each with rules of its own.
+mod designing;
 mod layout;
+mod lent;
 mod merging;
 mod part_sets;
+mod plan;
 mod theorems;
 mod unplaced;
 
+pub use designing::design;
+pub use lent::design_for;
 pub use part_sets::PartSets;
+pub use plan::Plan;
 pub use theorems::chase_decides;
 pub use theorems::design_always_exists;
 pub use theorems::design_always_fits;

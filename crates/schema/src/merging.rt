@@ -22,7 +22,7 @@ fn join(rule: Rule, left: ColumnSet, all: ColumnSet) -> ColumnSet
 }
 
 // All columns of the rules with this left side.
-fn gather(cover: &[Rule], left: ColumnSet) -> ColumnSet
+pub(crate) fn gather(cover: &[Rule], left: ColumnSet) -> ColumnSet
     ensures { λ r. ⌜ Gathered (deps (now (cover .entry))) (cols left) (cols r) ⌝ }
 {
     let mut all = left;
@@ -46,7 +46,7 @@ fn is_held(others: &[ColumnSet], set: ColumnSet) -> bool
 
 impl PartSets {
     pub(crate) fn none() -> Self
-        ensures { λ r. ⌜ sets-in r ≡ [] ⌝ }
+        ensures { λ r. ⌜ (sets-in r ≡ []) × (r .count ≡ 0) ⌝ }
     {
         PartSets {
             sets: [ColumnSet::empty(); 513],
@@ -78,7 +78,7 @@ impl PartSets {
     }
 
     // One set more, unless it lies inside one of them: of equal sets the first stays.
-    fn add(&mut self, set: ColumnSet)
+    pub(crate) fn add(&mut self, set: ColumnSet)
         requires { ⌜ now self .count < 513 ⌝ }
         ensures { λ _. ⌜ sets-in (now (self .exit)) ≡ with-set (sets-in (now (self .entry))) set ⌝ ∗ ⌜ now (self .exit) .count ≤ now (self .entry) .count + 1 ⌝ }
     {

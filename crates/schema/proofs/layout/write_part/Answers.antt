@@ -31,5 +31,5 @@ returns c =
     part-put s (left-in (c .args .rest .now)) row (c .write-own-owned .result) _ _ (c .bits .result)
     (c .write-own-owned .ensures .0 ∙ ap (λ (v : List Rule). length (own v s)) (c .rules .ensures))
     (put-mid row 2 (flat (own (c .rules .result .now) s)) (c .write-own-owned .last .row) two (c .write-own-owned .ensures .1)
-      ∙ ap (λ (v : List Rule). put-list row 2 (flat (own v s))) (c .rules .ensures))
+    ∙ ap (λ (v : List Rule). put-list row 2 (flat (own v s))) (c .rules .ensures))
     (c .take-out .ensures) (c .bits .ensures .1)

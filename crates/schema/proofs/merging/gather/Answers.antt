@@ -23,7 +23,7 @@ loop-rule-again c =
     let i = c .loop-rule .rule-index in
     let x : Rule = c .rule-item .result in
     let e : deps (take (i + 1) xs) ≡ deps (take i xs) ++ dep x ∷ []
-        = ap deps (take-more xs i x (c .loop-rule-test .taken) ∙ ap (λ (y : Rule). take i xs ++ y ∷ []) (sym (c .rule-item .is))) ∙ deps-push (take i xs) x in
+    = ap deps (take-more xs i x (c .loop-rule-test .taken) ∙ ap (λ (y : Rule). take i xs ++ y ∷ []) (sym (c .rule-item .is))) ∙ deps-push (take i xs) x in
     subst (λ (v : List Dep). Gathered v (cols (c .args .left)) (cols (c .join-all .result))) (sym e)
     (gathered-turn (deps (take i xs)) (cols (c .args .left)) (cols (c .loop-rule .all)) (dep x) (cols (c .join-all .result)) (c .loop-rule .inv) (c .join-all .ensures))
 
