@@ -7,3 +7,4 @@ pub mod Layout
 pub mod Reads
 pub mod Meaning
 pub mod Lent
+pub mod Bytes

@@ -1,6 +1,8 @@
 // Rules about the columns of a table, and what follows from them.
 // A rule is a functional dependency: rows that are equal in all its left columns are equal in all its right ones.
 // implications are then asked of them. Nothing here allocates.
+mod byte_row;
+mod bytes;
 mod closing;
 mod held;
 mod implied;
@@ -9,6 +11,7 @@ mod refusals;
 mod rules;
 mod theorems;
 
+pub use bytes::rules_from_bytes;
 pub use closing::closure;
 pub use held::RuleSet;
 pub use implied::Implication;
