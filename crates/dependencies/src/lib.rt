@@ -39,3 +39,6 @@ pub use rules::RulePartialEq;
 pub use theorems::closure_is_exact;
 pub use theorems::one_table_tells;
 pub use theorems::two_rows_suffice;
+
+#[cfg(test)]
+mod tests;
