@@ -34,7 +34,10 @@ fn row_of(bytes: &[u8]) -> ByteRow
     for i in 1..end {
         numbers[i + 1] = bytes[2 * i] as u64 + 256 * bytes[2 * i + 1] as u64;
     }
-    ByteRow { numbers, len: end + 1 }
+    ByteRow {
+        numbers,
+        len: end + 1,
+    }
 }
 
 // The rules of a table from bytes, or the first refusal that applies. What follows the rules is not looked at.

@@ -22,13 +22,12 @@ loop-i-again c =
     let v = getD bs (2 * i) 0 + 256 * getD bs (2 * i + 1) 0 in
     let low : 2 * i + 1 < length bs = omega arith in
     let fits : i + 1 < length xs = omega (arith, c .loop-i .inv .0) in
-    let there : i + 1 < length (row-of-bytes bs) = omega (arith, row-length bs (c .if-bytes-lt2 .left)) in
-    (
+    let there : i + 1 < length (row-of-bytes bs) = omega (arith, row-length bs (c .if-bytes-lt2 .left)) in (
       length-set xs (i + 1) v ∙ c .loop-i .inv .0,
       take-more-set xs (i + 1) v fits
-      ∙ ap (λ (ys : List ℕ). ys ++ v ∷ []) (c .loop-i .inv .1)
-      ∙ ap (λ (x : ℕ). take (i + 1) (row-of-bytes bs) ++ x ∷ []) (sym (row-at bs i (c .loop-i .kept .i) low))
-      ∙ sym (take-more (row-of-bytes bs) (i + 1) 0 there),
+          ∙ ap (λ (ys : List ℕ). ys ++ v ∷ []) (c .loop-i .inv .1)
+          ∙ ap (λ (x : ℕ). take (i + 1) (row-of-bytes bs) ++ x ∷ []) (sym (row-at bs i (c .loop-i .kept .i) low))
+          ∙ sym (take-more (row-of-bytes bs) (i + 1) 0 there),
     )
 
 pub returns : need.returns
