@@ -8,3 +8,4 @@ pub mod Reads
 pub mod Meaning
 pub mod Lent
 pub mod Bytes
+pub mod Shown

@@ -9,6 +9,7 @@ mod implied;
 mod input;
 mod refusals;
 mod rules;
+mod text;
 mod theorems;
 
 pub use bytes::rules_from_bytes;
@@ -36,6 +37,7 @@ pub use rules::Rule;
 pub use rules::RuleDebug;
 pub use rules::RuleEq;
 pub use rules::RulePartialEq;
+pub use text::RuleDisplay;
 pub use theorems::closure_is_exact;
 pub use theorems::one_table_tells;
 pub use theorems::two_rows_suffice;

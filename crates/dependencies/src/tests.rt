@@ -45,7 +45,12 @@ fn bytes() -> Result<(), Fail> {
     check_eq(told(rules_from_bytes(&[6])), 2000)?;
     check_eq(told(rules_from_bytes(&[6, 1, 1, 0, 2])), 2001)?;
     check_eq(told(rules_from_bytes(&[6, 1, 1, 0, 0, 1])), 3001)?;
-    check_eq(told(rules_from_bytes(&[9, 1, 1, 0, 0, 1, 7])), 0)
+    check_eq(told(rules_from_bytes(&[9, 1, 1, 0, 0, 1, 7])), 0)?;
+    let mut many = [1; 130];
+    many[0] = 16;
+    many[1] = 32;
+    check_eq(told(rules_from_bytes(&many)), 0)?;
+    check_eq(told(rules_from_bytes(&many[0..129])), 2032)
 }
 
 // 0 where it follows, or 100 and the set on which two rows against it agree.
@@ -70,6 +75,8 @@ const ORGANS: [u64; 10] = [6, 4, 1, 10, 2, 4, 48, 1, 33, 16];
 #[test]
 fn implications() -> Result<(), Fail> {
     check_eq(asked(&ORGANS, 1, 15), 0)?;
+    check_eq(asked(&ORGANS, 1, 2), 0)?;
+    check_eq(asked(&ORGANS, 1, 16), 115)?;
     check_eq(asked(&ORGANS, 33, 63), 0)?;
     check_eq(asked(&ORGANS, 16, 1), 116)?;
     check_eq(asked(&ORGANS, 64, 1), 3008)?;
@@ -96,6 +103,12 @@ fn rows_against() -> Result<(), Fail> {
 fn shown(rt: LibcRuntime) -> Result<(), Fail> {
     let text = Refusal::Broken { part: 2, rule: 1 }.to_string(rt.alloc())?;
     check(text.as_str() == "refused 9 at 129")?;
+    let nothing = ColumnSet::empty();
+    let rule = Rule {
+        left: nothing,
+        right: nothing,
+    }.to_string(rt.alloc())?;
+    check(rule.as_str() == ">")?;
     let short = Refusal::RuleCount(7).to_string(rt.alloc())?;
     check(short.as_str() == "refused 2 at 7")?;
     check_eq(Condition::ThirdForm.number(), 5)?;
