@@ -26,3 +26,6 @@ pub use table_width::WidthDebug;
 pub use table_width::WidthEq;
 pub use table_width::WidthPartialEq;
 pub use text::ColumnSetDisplay;
+
+#[cfg(test)]
+mod tests;

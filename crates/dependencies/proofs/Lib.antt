@@ -17,3 +17,4 @@ pub mod Refuting
 pub mod Differing
 pub mod Asking
 pub mod Lent
+pub mod ByteRows

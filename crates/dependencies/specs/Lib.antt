@@ -7,3 +7,5 @@ pub mod Layout
 pub mod Reads
 pub mod Meaning
 pub mod Lent
+pub mod Bytes
+pub mod Shown

@@ -29,7 +29,7 @@ pub fn closure(rules: &[Rule], start: ColumnSet) -> ColumnSet
     loop {
         let next = one_round(rules, all);
         if next == all {
-            return all;
+            return next;
         }
         all = next;
     }

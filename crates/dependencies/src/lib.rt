@@ -1,14 +1,18 @@
 // Rules about the columns of a table, and what follows from them.
 // A rule is a functional dependency: rows that are equal in all its left columns are equal in all its right ones.
 // implications are then asked of them. Nothing here allocates.
+mod byte_row;
+mod bytes;
 mod closing;
 mod held;
 mod implied;
 mod input;
 mod refusals;
 mod rules;
+mod text;
 mod theorems;
 
+pub use bytes::rules_from_bytes;
 pub use closing::closure;
 pub use held::RuleSet;
 pub use implied::Implication;
@@ -33,6 +37,10 @@ pub use rules::Rule;
 pub use rules::RuleDebug;
 pub use rules::RuleEq;
 pub use rules::RulePartialEq;
+pub use text::RuleDisplay;
 pub use theorems::closure_is_exact;
 pub use theorems::one_table_tells;
 pub use theorems::two_rows_suffice;
+
+#[cfg(test)]
+mod tests;

@@ -19,16 +19,17 @@ loop-next-holds c = (0, λ d. refl)
 pub returns-then-eq : need.returns-then-eq
 returns-then-eq c =
     let ds = deps (c .args .rules .now) in
+    let first = cols (c .args .start) in
     let all = c .loop-next .all in
     let next = c .one-round-next .result in
     let k = c .loop-next .inv .0 in
-    let reached : Cols = rounds k ds (cols (c .args .start)) in
+    let reached : Cols = rounds k ds first in
     let there : Same (cols all) reached = c .loop-next .inv .1 in
-    let still : Same (round ds (cols all)) (cols all)
-    = λ d. sym (c .one-round-next .ensures d) ∙ same-cols next all (c .if-eq .ensures tt .0 refl) d in
+    let same : Same (cols next) (cols all) = same-cols next all (c .if-eq .ensures tt .0 refl) in
+    let still : Same (round ds (cols all)) (cols all) = λ d. sym (c .one-round-next .ensures d) ∙ same d in
     let rests : Same (round ds reached) reached = λ d. sym (round-same ds (cols all) reached there d) ∙ still d ∙ there d in
-    closes ds (cols (c .args .start)) (cols all)
-    (same-trans (cols all) reached (closure ds (cols (c .args .start))) there (rest-is-closure k ds (cols (c .args .start)) rests))
+    closes ds first (cols next)
+    (same-trans (cols next) (cols all) (closure ds first) same (same-trans (cols all) reached (closure ds first) there (rest-is-closure k ds first rests)))
 
 pub loop-next-less : need.loop-next-less
 loop-next-less c =
