@@ -10,3 +10,4 @@ pub mod Plans
 pub mod Sets
 pub mod Theorems
 pub mod Writing
+pub mod Shown

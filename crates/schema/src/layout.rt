@@ -11,7 +11,7 @@ use columns::ColumnSet;
 use dependencies::Rule;
 
 // Whether both sides of the rule lie in the set.
-fn lies(rule: Rule, set: ColumnSet) -> bool
+pub(crate) fn lies(rule: Rule, set: ColumnSet) -> bool
     ensures { λ r. ⌜ r ≡ inside rule set ⌝ }
 {
     rule.left.is_subset(set) && rule.right.is_subset(set)
