@@ -25,7 +25,7 @@ use Rattle.schema.specs.Writing.{inside, own, over, flat, one-part, encoded}
 use Rattle.schema.proofs.Sifting.{those-sub, others-sub}
 use Rattle.schema.proofs.Written.{flat-length}
 
-own-deps : (rs : List Rule) (s : ColumnSet) → deps (own rs s) ≡ lying (deps rs) (cols s)
+pub own-deps : (rs : List Rule) (s : ColumnSet) → deps (own rs s) ≡ lying (deps rs) (cols s)
 unfolding deps
 own-deps [] s = refl
 own-deps (r ∷ rs) s = go (inside r s) (own-deps rs s)
@@ -34,7 +34,7 @@ own-deps (r ∷ rs) s = go (inside r s) (own-deps rs s)
     go true e = ap (λ v. dep r ∷ v) e
     go false e = e
 
-over-deps : (rs : List Rule) (s : ColumnSet) → deps (over rs s) ≡ left-over (deps rs) (cols s)
+pub over-deps : (rs : List Rule) (s : ColumnSet) → deps (over rs s) ≡ left-over (deps rs) (cols s)
 unfolding deps
 over-deps [] s = refl
 over-deps (r ∷ rs) s = go (inside r s) (over-deps rs s)

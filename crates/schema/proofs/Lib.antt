@@ -24,3 +24,4 @@ pub mod Decoding
 pub mod Fitting
 pub mod Telling
 pub mod PartText
+pub mod PlanText

@@ -35,14 +35,14 @@ impl Unplaced {
         }
     }
 
-    fn rules(&self) -> &[Rule]
+    pub(crate) fn rules(&self) -> &[Rule]
         ensures { λ r. ⌜ now r ≡ left-in (now (self .entry)) ⌝ }
     {
         &self.rules[0..self.count]
     }
 
     // Takes out the rules that lie in the set, which its part now owns: no later part gets them again.
-    fn take_out(&mut self, set: ColumnSet)
+    pub(crate) fn take_out(&mut self, set: ColumnSet)
         ensures { λ _. ⌜ left-in (now (self .exit)) ≡ over (left-in (now (self .entry))) set ⌝ }
     {
         let mut len = 0;

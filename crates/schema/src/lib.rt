@@ -6,6 +6,7 @@ mod merging;
 mod part_sets;
 mod part_text;
 mod plan;
+mod plan_text;
 mod theorems;
 mod unplaced;
 
@@ -16,6 +17,7 @@ pub use part_text::Lead;
 pub use part_text::PartLine;
 pub use part_text::PartLineDisplay;
 pub use plan::Plan;
+pub use plan_text::PlanDisplay;
 pub use theorems::chase_decides;
 pub use theorems::design_always_exists;
 pub use theorems::design_always_fits;
