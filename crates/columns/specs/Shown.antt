@@ -1,15 +1,15 @@
 -- Sets of columns as text.
 use mathlib.Core.List.{List, [], _∷_, _++_}
 use Prim.Native.Nat.{ℕ}
+use lib.Chars.{codes}
 use Rattle.std.specs.Written.{decimal}
 use Rattle.columns.specs.Cols.{Cols}
 
--- each column behind a space
-abbrev pub spaced : Cols → List ℕ
-spaced [] = []
-spaced (c ∷ cs) = 32 ∷ (decimal c ++ spaced cs)
+-- things written one after the other, the first behind one text and each further one behind another
+abbrev pub led : {A : Type 0} → (A → List ℕ) → List ℕ → List ℕ → List A → List ℕ
+led text first next [] = []
+led text first next (x ∷ xs) = first ++ (text x ++ led text next next xs)
 
 -- the columns in order, each in decimal digits, parted by one space
 abbrev pub listed : Cols → List ℕ
-listed [] = []
-listed (c ∷ cs) = decimal c ++ spaced cs
+listed cs = led decimal [] (codes " ") cs
