@@ -13,7 +13,7 @@ use Rattle.std.proofs.shelf.Lists.{set-past}
 use Rattle.std.proofs.shelf.Tests.{lt-ltb, le-ltb, ltb-true, ltb-false}
 use Rattle.dependencies.specs.Lent.{put-list}
 use Rattle.dependencies.proofs.Lent.{length-put, put-append, put-full}
-use Rattle.keys.specs.Room.{room, Emitted}
+use Rattle.keys.specs.Room.{room, Emitted, Put}
 
 -- where there is room for a list, another one is written behind it
 pub room-both : (size n m : ℕ) (ys zs : List ℕ) → Some m ≡ room size n ys → room size n (ys ++ zs) ≡ room size m zs
@@ -85,11 +85,9 @@ pub nothing-put : (xs : List ℕ) (n : ℕ) → Emitted xs n [] (Some n) xs
 unfolding put-list
 nothing-put xs n = (refl, refl)
 
-pub one-put : (xs : List ℕ) (n x : ℕ) → n < length xs → Emitted xs n (x ∷ []) (Some (n + 1)) (set xs n x)
+pub one-put : (xs : List ℕ) (n x : ℕ) (r : Option ℕ) (after : List ℕ) → Put xs n x r after → Emitted xs n (x ∷ []) r after
 unfolding put-list
-one-put xs n x h =
-    (refl, ap (λ (z : ℕ). Some z) (add-one n) ∙ ap (λ (v : Bool). cond v (Some (suc n)) None) (sym (lt-ltb n (length xs) h)))
-
-pub one-full : (xs : List ℕ) (n x : ℕ) → length xs ≤ n → Emitted xs n (x ∷ []) None xs
-unfolding put-list
-one-full xs n x h = (sym (set-past xs n x h), ap (λ (v : Bool). cond v (Some (suc n)) None) (sym (le-ltb n (length xs) h)))
+one-put xs n x (Some m) after h =
+    (h .2, ap (λ (z : ℕ). Some z) (h .1 ∙ add-one n) ∙ ap (λ (v : Bool). cond v (Some (suc n)) None) (sym (lt-ltb n (length xs) (h .0))))
+one-put xs n x None after h =
+    (h .1 ∙ sym (set-past xs n x (h .0)), ap (λ (v : Bool). cond v (Some (suc n)) None) (sym (le-ltb n (length xs) (h .0))))

@@ -15,22 +15,22 @@ use Rattle.columns.proofs.SetNumbers.{cols-rising, cols-below}
 use Rattle.dependencies.specs.Tables.{Dep}
 use Rattle.dependencies.specs.Closure.{fixes?}
 use Rattle.keys.specs.Listed.{Exactly, sets, Walked}
-use Rattle.keys.specs.Room.{Emitted}
+use Rattle.keys.specs.Room.{Put}
 use Rattle.keys.specs.Walks.{Key-in, Divided}
 use Rattle.keys.specs.declared.branch.Branch.{Branch}
 use Rattle.keys.proofs.Existing.{there-is}
 use Rattle.keys.proofs.Forked.{from-with, from-without, in-half, with-first}
 use Rattle.keys.proofs.Lists.{exactly-none, exactly-one, exactly-both}
 use Rattle.keys.proofs.Numbered.{numbers-of, sets-append}
-use Rattle.keys.proofs.Rooms.{nothing-put, both, stop}
+use Rattle.keys.proofs.Rooms.{nothing-put, one-put, both, stop}
 
 pub walked-leaf : (ds : List Dep) (b : Branch) (row : List ℕ) (n number : ℕ) (r : Option ℕ) (after : List ℕ) → cols (b .chosen) ≡ set-in 0 64 number
-    → Key-in ds b (cols (b .chosen)) → ((k : Cols) → Key-in ds b k → cols (b .chosen) ≡ k) → Emitted row n (number ∷ []) r after → Walked ds b row n r after
+    → Key-in ds b (cols (b .chosen)) → ((k : Cols) → Key-in ds b k → cols (b .chosen) ≡ k) → Put row n number r after → Walked ds b row n r after
 walked-leaf ds b row n number r after e h only put =
     record {
       list = number ∷ [];
       found = subst (λ (v : Cols). Exactly (Key-in ds b) (v ∷ [])) e (exactly-one (Key-in ds b) (cols (b .chosen)) h only);
-      put = put;
+      put = one-put row n number r after put;
     }
 
 pub walked-dead : (ds : List Dep) (b : Branch) (row : List ℕ) (n : ℕ) → ((k : Cols) → Key-in ds b k → ⊥) → Walked ds b row n (Some n) row

@@ -5,6 +5,8 @@ mod first;
 mod fixing;
 mod listing;
 mod pruning;
+#[cfg(test)]
+mod tests;
 mod theorems;
 
 pub use first::first_key;

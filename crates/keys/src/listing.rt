@@ -1,8 +1,7 @@
 // All keys, in order, written into lent room.
-ghost use mathlib.Core.List.{[], _∷_};
 ghost use Rattle.columns.specs.Sets.{cols};
 ghost use Rattle.dependencies.specs.Rules.{deps};
-ghost use Rattle.keys.specs.Room.{Emitted};
+ghost use Rattle.keys.specs.Room.{Put};
 ghost use Rattle.keys.specs.Listed.{Walked};
 ghost use Rattle.keys.specs.Answer.{Keys-written, Keys-told};
 use crate::branch::Branch;
@@ -15,7 +14,7 @@ use dependencies::read_rules;
 
 // Writes a number behind the first `count`; None where there is no room for it, and else how many there are then.
 fn put(out: &mut [u64], count: usize, number: u64) -> Option<usize>
-    ensures { λ r. ⌜ Emitted (now (out .entry)) count (number ∷ []) r (now (out .exit)) ⌝ }
+    ensures { λ r. ⌜ Put (now (out .entry)) count number r (now (out .exit)) ⌝ }
 {
     if count >= out.len() {
         return None;
