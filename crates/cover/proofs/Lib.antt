@@ -8,3 +8,4 @@ pub mod ProperRules
 pub mod Queues
 pub mod RuleLists
 pub mod Splitting
+pub mod Written

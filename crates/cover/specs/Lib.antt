@@ -1,3 +1,4 @@
+pub mod Answer
 pub mod Fine
 pub mod Held
 pub mod Least
