@@ -6,6 +6,8 @@ mod lent;
 mod queue;
 mod queueing;
 mod redundant_rules;
+#[cfg(test)]
+mod tests;
 mod theorems;
 mod trimming;
 
