@@ -3,6 +3,7 @@ pub mod Keeping
 pub mod LeastMade
 pub mod LeastRules
 pub mod LeastTold
+pub mod Orders
 pub mod Narrow
 pub mod ProperRules
 pub mod Queues

@@ -21,6 +21,7 @@ use Rattle.dependencies.specs.declared.rules.Rule.{Rule}
 use Rattle.dependencies.proofs.Lent.{put-append, put-fits, length-put}
 use Rattle.cover.specs.Answer.{coded, Least-row}
 use Rattle.cover.specs.Least.{Least}
+use Rattle.cover.specs.Ordered.{Narrowed, singles}
 use Rattle.cover.proofs.ProperRules.{proper-at}
 use Rattle.cover.proofs.RuleLists.{in-deps}
 
@@ -77,7 +78,7 @@ coded-fit n (r ∷ rs) ys zero f h = f r (inl refl) .0
 coded-fit n (r ∷ rs) ys (suc zero) f h = f r (inl refl) .1
 coded-fit n (r ∷ rs) ys (suc (suc i)) f h = coded-fit n rs ys i (λ x k. f x (inr k)) (omega arith)
 
-module _ (n : ℕ) (ds : List Dep) (row : List ℕ) (rs : List Rule) (narrow : n ≤ 16) (proper : proper? n (deps rs) ≡ true) (least : Least ds (deps rs))
+module _ (n : ℕ) (ds : List Dep) (row : List ℕ) (rs : List Rule) (narrow : n ≤ 16) (proper : proper? n (deps rs) ≡ true) (least : Least ds (deps rs)) (ordered : Narrowed (singles ds) (deps rs))
     (room : 1 + 2 * length rs ≤ length row) where
   abbrev all : List ℕ
   all = length rs ∷ coded rs
@@ -96,6 +97,7 @@ module _ (n : ℕ) (ds : List Dep) (row : List ℕ) (rs : List Rule) (narrow : n
       record {
         count = refl;
         least = subst (λ v. Least ds v) (sym (decode n rs (drop (length all) row) narrow fit)) least;
+        ordered = subst (λ v. Narrowed (singles ds) v) (sym (decode n rs (drop (length all) row) narrow fit)) ordered;
         named = λ i h.
             let e : 1 + i ≡ suc i = omega arith in
             subst (λ k. getD whole k 0 < 2 ^ n) (sym e) (coded-fit n rs (drop (length all) row) i fit h);

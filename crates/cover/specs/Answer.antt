@@ -12,16 +12,18 @@ use Rattle.dependencies.specs.Told.{done, told}
 use Rattle.dependencies.specs.declared.refusals.Refusal.{Refusal}
 use Rattle.dependencies.specs.declared.rules.Rule.{Rule}
 use Rattle.cover.specs.Least.{Least}
+use Rattle.cover.specs.Ordered.{Narrowed, singles}
 
 -- rules as numbers, two sets a rule, the left one first
 abbrev pub coded : List Rule → List ℕ
 coded [] = []
 coded (r ∷ rs) = r .left .bits ∷ r .right .bits ∷ coded rs
 
--- The row has k in front, and behind it k rules of a table of n columns, a least set of ds. All else is as it was.
+-- The row has k in front, and behind it k rules of a table of n columns: a least set of ds, in their order. All else is as it was.
 pub record Least-row (n : ℕ) (ds : List Dep) (row : List ℕ) (k : ℕ) (after : List ℕ) : Type 0 where
   pub count : getD after 0 0 ≡ k
   pub least : Least ds (rules-in n k (drop 1 after))
+  pub ordered : Narrowed (singles ds) (rules-in n k (drop 1 after))
   pub named : (i : ℕ) → i < 2 * k → getD after (1 + i) 0 < 2 ^ n
   pub behind : drop (1 + 2 * k) after ≡ drop (1 + 2 * k) row
   pub long : length after ≡ length row
