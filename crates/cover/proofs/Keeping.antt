@@ -9,7 +9,9 @@ use Rattle.std.proofs.shelf.Lists.{append-nil}
 use Rattle.columns.specs.Members.{In, Sub}
 use Rattle.columns.proofs.Members.{in-left, in-right, in-either}
 use Rattle.columns.proofs.Shrink.{sub-front}
+use Rattle.cover.specs.Ordered.{Part}
 use Rattle.cover.specs.Trimmed.{Redundancy-laws, Trimming, Trimmed}
+use Rattle.cover.proofs.Orders.{part-all, part-through, part-but}
 
 no-split : {A : Type 0} (us vs : List A) (m : A) → [] ≡ us ++ m ∷ vs → ⊥
 no-split [] vs m e = let z : _≡_ {A = ℕ} 0 1 = cc in omega arith
@@ -43,6 +45,7 @@ module _ {A : Type 0} (redundant : List A → A → Type 0) (laws : Redundancy-l
       record {
         covers = λ m i. laws .own (fs ++ []) m (in-left fs [] m i);
         inside = λ m i. elim (in-either fs [] m i) [ inl a ↦ a | inr z ↦ absurd z ];
+        ordered = part-all fs;
         few = omega (arith, length-append fs []);
         needed = λ us vs m e f. no-split us vs m e;
       }
@@ -56,6 +59,7 @@ module _ {A : Type 0} (redundant : List A → A → Type 0) (laws : Redundancy-l
       record {
         covers = λ m i. laws .through (todo ++ kept) (x ∷ (todo ++ kept)) all m (t .covers m i);
         inside = λ m i. t .inside m (inr i);
+        ordered = part-through (part-but kept x todo) (t .ordered);
         few = omega (arith, t .few);
         needed = λ us vs m e g. t .needed us vs m e (redundant-more (todo ++ (us ++ vs)) (x ∷ (todo ++ (us ++ vs))) (λ v i. inr i) m g);
       }
@@ -67,6 +71,7 @@ module _ {A : Type 0} (redundant : List A → A → Type 0) (laws : Redundancy-l
       record {
         covers = λ m i. redundant-more (x ∷ (todo ++ kept)) (todo ++ (kept ++ x ∷ [])) out m (t .covers m i);
         inside = λ m i. t .inside m (back m i);
+        ordered = subst (λ v. Part v fs) (sym (append-assoc kept (x ∷ []) todo)) (t .ordered);
         few = omega (arith, t .few, length-append todo kept, length-append todo (kept ++ x ∷ []), length-append kept (x ∷ []));
         needed = λ us vs m e g.
             elim (snoc-cases kept x us m vs e) [

@@ -12,9 +12,10 @@ use Rattle.dependencies.specs.Tables.{proper?}
 use Rattle.dependencies.specs.declared.rules.Rule.{Rule}
 use Rattle.dependencies.specs.declared.held.RuleSet.{RuleSet}
 use Rattle.cover.specs.Least.{Least}
+use Rattle.cover.specs.Ordered.{Narrowed, singles}
 use Rattle.cover.specs.Queued.{queued}
 use Rattle.cover.specs.declared.queue.Queue.{Queue}
-use Rattle.cover.proofs.LeastMade.{trimmed-least, kept-fine}
+use Rattle.cover.proofs.LeastMade.{trimmed-least, kept-ordered, kept-fine}
 use Rattle.cover.proofs.ProperRules.{fines-proper}
 use Rattle.cover.proofs.least.least_cover.Needs as need
 
@@ -42,6 +43,7 @@ returns c =
     let t = c .drop-redundant .ensures in
     record {
       least = subst (λ (v : List Rule). Least ds (deps v)) (sym e) (trimmed-least ds fs kept a t);
+      ordered = subst (λ (v : List Rule). Narrowed (singles ds) (deps v)) (sym e) (kept-ordered ds fs kept a t);
       proper = subst (λ (v : List Rule). proper? (set .width .columns) (deps v) ≡ true) (sym e) (fines-proper (set .width .columns) ds (deps kept) (set .proper) (kept-fine ds fs kept a t));
       few = omega (arith, ap length e, t .few, length-queued (c .split-queue .result), c .split-queue .ensures .few);
     }
