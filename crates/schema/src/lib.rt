@@ -5,6 +5,8 @@ mod lent;
 mod merging;
 mod part_sets;
 mod plan;
+#[cfg(test)]
+mod tests;
 mod theorems;
 mod unplaced;
 
