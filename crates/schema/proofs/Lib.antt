@@ -23,3 +23,4 @@ pub mod Making
 pub mod Decoding
 pub mod Fitting
 pub mod Telling
+pub mod PartEnds

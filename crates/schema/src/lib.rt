@@ -1,5 +1,6 @@
 // Designs: the parts into which a table is laid, each with rules of its own.
 mod designing;
+mod extents;
 mod layout;
 mod lent;
 mod merging;
@@ -11,8 +12,8 @@ mod theorems;
 mod unplaced;
 
 pub use designing::design;
+pub use extents::design_extent;
 pub use lent::design_for;
-pub use part_sets::PartSets;
 pub use plan::Plan;
 pub use theorems::chase_decides;
 pub use theorems::design_always_exists;
@@ -21,4 +22,3 @@ pub use theorems::key_part_enough;
 pub use theorems::third_form_decided;
 pub use theorems::two_parts_lossless;
 pub use theorems::verdict_pinned;
-pub use unplaced::Unplaced;

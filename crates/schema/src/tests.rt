@@ -1,5 +1,6 @@
 // Designs of small tables, and what a lent row holds afterwards. A set is written as its number: 2^c for column c.
 use crate::designing::design;
+use crate::extents::design_extent;
 use crate::lent::design_for;
 use columns::ColumnSetDebug;
 use columns::ColumnSetPartialEq;
@@ -159,6 +160,16 @@ fn short_rows() -> Result<(), Fail> {
         design_for(&[2, 2, 1, 2, 1, 4], &mut none),
         Err(Refusal::Set(3)),
     ).note("the rules are told first")
+}
+
+#[test]
+fn extents() -> Result<(), Fail> {
+    let row = [2, 3, 1, 1, 2, 5, 0, 9];
+    check_eq(design_extent(&row), Some(7))?;
+    check_eq(design_extent(&row[..7]), Some(7))?;
+    check_eq(design_extent(&row[..6]), None).note("the last part is cut short")?;
+    check_eq(design_extent(&[1, 3, 1, 1]), None).note("a rule is cut short")?;
+    check_eq(design_extent(&[]), None)
 }
 
 #[test]
