@@ -25,3 +25,4 @@ pub mod Fitting
 pub mod Telling
 pub mod PartText
 pub mod PlanText
+pub mod PartEnds

@@ -2,10 +2,9 @@
 use mathlib.Core.List.{List, [], _∷_, _++_}
 use Prim.Native.Nat.{ℕ}
 use lib.Chars.{codes}
-use Rattle.columns.specs.Shown.{listed}
+use Rattle.columns.specs.Shown.{led, listed}
 use Rattle.columns.specs.declared.set.ColumnSet.{ColumnSet}
 use Rattle.columns.specs.Sets.{cols}
-use Rattle.dependencies.specs.Tables.{Dep}
 use Rattle.dependencies.specs.Rules.{deps}
 use Rattle.dependencies.specs.Shown.{rule-text}
 use Rattle.dependencies.specs.declared.rules.Rule.{Rule}
@@ -19,14 +18,9 @@ abbrev pub lead-text : Lead → List ℕ
 lead-text By = codes " by "
 lead-text Space = codes " "
 
--- rules, the first behind the lead and each further one behind a space
-abbrev pub led : Lead → List Dep → List ℕ
-led l [] = []
-led l (d ∷ ds) = lead-text l ++ (rule-text d ++ led Space ds)
-
 -- a part as one line, without its end
 abbrev pub part-text : Part → List ℕ
-part-text p = listed (p .cols) ++ led By (p .rules)
+part-text p = listed (p .cols) ++ led rule-text (codes " by ") (codes " ") (p .rules)
 
 -- the part of a set, which owns those of the rules that lie in it
 abbrev pub part-of : List Rule → ColumnSet → Part
