@@ -1,21 +1,39 @@
-// Reads the rules of a table from standard input and prints what the left side of each fixes, or the refusal.
-use columns::ColumnSetDisplay;
+// Reads the rules of a table from standard input and prints a design for them, a line a part, and then the line of the keys;
+// or the refusal.
+use columns::ColumnSet;
 use dependencies::RefusalDisplay;
 use dependencies::RuleSet;
-use dependencies::closure;
 use dependencies::rules_from_bytes;
+use keys::KeysLine;
+use keys::KeysLineDisplay;
+use keys::write_keys;
+use schema::PlanDisplay;
+use schema::design;
 use std::env;
 use std::error::AnyError;
 use std::io;
 use std::io::Read;
 
-fn show(rt: &LibcRuntime, set: &RuleSet) -> io::Result<()> {
-    for rule in set.rules() {
-        let left = rule.left;
-        let fixed = closure(set.rules(), left);
-        println!(rt, "{left} fixes {fixed}")?;
+// Of 16 columns at most 12,870 sets lie none inside another, so there are no more keys.
+const MOST_KEYS: usize = 12870;
+
+fn show_keys(rt: &LibcRuntime, set: &RuleSet) -> io::Result<()> {
+    let width = set.width();
+    let mut row = [0; MOST_KEYS];
+    match write_keys(set.rules(), ColumnSet::all(width), &mut row) {
+        Ok(count) => {
+            let keys = &row[0..count as usize];
+            let line = KeysLine { width, keys };
+            println!(rt, "{line}")
+        }
+        Err(refusal) => println!(rt, "{refusal}"),
     }
-    Ok(())
+}
+
+fn show(rt: &LibcRuntime, set: &RuleSet) -> io::Result<()> {
+    let plan = design(set);
+    print!(rt, "{plan}")?;
+    show_keys(rt, set)
 }
 
 fn run(rt: &LibcRuntime) -> Result<(), AnyError> {

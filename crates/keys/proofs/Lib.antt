@@ -12,3 +12,4 @@ pub mod Rooms
 pub mod Sparing
 pub mod Walking
 pub mod Written
+pub mod FittingKeys

@@ -3,3 +3,4 @@ pub mod Keys
 pub mod Listed
 pub mod Room
 pub mod Walks
+pub mod Shown

@@ -7,10 +7,14 @@ mod listing;
 mod pruning;
 #[cfg(test)]
 mod tests;
+mod text;
 mod theorems;
 
 pub use first::first_key;
 pub use listing::candidate_keys;
 pub use listing::write_keys;
+pub use text::KeyLead;
+pub use text::KeysLine;
+pub use text::KeysLineDisplay;
 pub use theorems::keys_are_one;
 pub use theorems::keys_exist;
