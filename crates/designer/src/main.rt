@@ -19,10 +19,12 @@ const MOST_KEYS: usize = 12870;
 
 fn show_keys(rt: &LibcRuntime, set: &RuleSet) -> io::Result<()> {
     let width = set.width();
-    let mut row = [0; MOST_KEYS];
-    match write_keys(set.rules(), ColumnSet::all(width), &mut row) {
+    let mut row = vec![in rt.alloc(); 0; MOST_KEYS]?;
+    match write_keys(set.rules(), ColumnSet::all(width), row.as_mut_slice()) {
         Ok(count) => {
-            let keys = &row[0..count as usize];
+            let Some(keys) = row.as_slice().get(0..count as usize) else {
+                return Ok(());
+            };
             let line = KeysLine { width, keys };
             println!(rt, "{line}")
         }

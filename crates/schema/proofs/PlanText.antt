@@ -41,15 +41,14 @@ module _ {W : Type 0} (took : W → List ℕ → W → Type 0) where
       → rest ≡ over rs s → Lines-but f g (parts-left rs before) all → (Plain g → Put took g (part-text (part-of rs s) ++ 10 ∷ []) h)
       → Lines-but f h (parts-left rest ss) all
   one-lined f g h rs rest s before ss all e o (bs, put, so) next =
-      let line : List ℕ = part-text (part-of rs s) ++ 10 ∷ [] in
-      (
+      let line : List ℕ = part-text (part-of rs s) ++ 10 ∷ [] in (
         bs ++ line,
         λ plain. let p = put plain in put-more took f bs g line h p (next (p .plain)),
         append-assoc bs line (design-text (parts-left rest ss))
-        ∙ ap (λ v. bs ++ v) (append-assoc (part-text (part-of rs s)) (10 ∷ []) (design-text (parts-left rest ss)))
-        ∙ ap (λ v. bs ++ design-text (part-of rs s ∷ parts-left v ss)) o
-        ∙ ap (λ v. bs ++ design-text v) (sym (first-part rs s ss))
-        ∙ ap (λ v. bs ++ design-text (parts-left rs v)) (sym e) ∙ so,
+            ∙ ap (λ v. bs ++ v) (append-assoc (part-text (part-of rs s)) (10 ∷ []) (design-text (parts-left rest ss)))
+            ∙ ap (λ v. bs ++ design-text (part-of rs s ∷ parts-left v ss)) o
+            ∙ ap (λ v. bs ++ design-text v) (sym (first-part rs s ss))
+            ∙ ap (λ v. bs ++ design-text (parts-left rs v)) (sym e) ∙ so,
       )
 
   pub all-lined : (f g : Formatter W) (rs : List Rule) (left : List ColumnSet) (all : List Part) → left ≡ [] → Lines-but f g (parts-left rs left) all

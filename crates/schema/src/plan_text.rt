@@ -16,7 +16,10 @@ pub impl fmt::Display for Plan as PlanDisplay {
         let sets = self.sets.sets();
         for i in 0..sets.len() {
             let set = sets[i];
-            let line = PartLine { set, rules: rest.rules() };
+            let line = PartLine {
+                set,
+                rules: rest.rules(),
+            };
             writeln!(f, "{line}")?;
             // What this part owns no later part owns.
             rest.take_out(set);
