@@ -9,7 +9,7 @@ ghost use Rattle.dependencies.specs.Closure.{closure as closure-of};
 ghost use Rattle.dependencies.specs.Reads.{rules-of};
 ghost use Rattle.dependencies.specs.Rules.{dep, deps};
 ghost use Rattle.cover.specs.Fine.{Reduced, Splits, All-split};
-ghost use Rattle.cover.specs.Queued.{queued};
+ghost use Rattle.cover.specs.Queued.{queued, spare};
 use crate::queue::Queue;
 use columns::Column;
 use columns::ColumnSet;
@@ -41,10 +41,9 @@ fn reduce(rules: &[Rule], left: ColumnSet, b: Column) -> ColumnSet
 
 // Adds a fine rule for each right column of the rule. What one of them can do without, another may need, so each has a left side of its own.
 fn split_rule(rules: &[Rule], rule: Rule, queue: &mut Queue<Rule>)
-    requires { ⌜ now queue .end + length (cols (rule .right)) ≤ 1026 ⌝ }
+    requires { ⌜ length (cols (rule .right)) ≤ spare (now queue) ⌝ }
     ensures says { λ _. ⌜ Splits (deps (now (rules .entry))) (dep rule) (deps (queued (now (queue .entry)))) (deps (queued (now (queue .exit)))) ⌝ }
-    ensures first { λ _. ⌜ now (queue .exit) .first ≡ now (queue .entry) .first ⌝ }
-    ensures end { λ _. ⌜ now (queue .exit) .end ≡ now (queue .entry) .end + length (cols (rule .right)) ⌝ }
+    ensures room { λ _. ⌜ spare (now (queue .exit)) + length (cols (rule .right)) ≡ spare (now (queue .entry)) ⌝ }
 {
     let mut todo = rule.right;
     while let Some(b) = todo.take_first() {
@@ -59,8 +58,7 @@ fn split_rule(rules: &[Rule], rule: Rule, queue: &mut Queue<Rule>)
 // Fine rules that say what the given rules say, in the order of these and of their right columns.
 pub(crate) fn split(set: &RuleSet) -> Queue<Rule>
     ensures says { λ r. ⌜ All-split (deps (rules-of (now (set .entry)))) (deps (rules-of (now (set .entry)))) (deps (queued r)) ⌝ }
-    ensures first { λ r. ⌜ r .first ≡ 0 ⌝ }
-    ensures few { λ r. ⌜ r .end ≤ now (set .entry) .width .columns * now (set .entry) .count ⌝ }
+    ensures room { λ r. ⌜ 1024 ≤ spare r + now (set .entry) .width .columns * now (set .entry) .count ⌝ }
 {
     let nothing = ColumnSet::empty();
     let mut queue = Queue::new(Rule {

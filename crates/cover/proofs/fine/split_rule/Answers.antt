@@ -16,10 +16,10 @@ use Rattle.cover.proofs.Splitting.{splitting-start, splitting-turn, splitting-
 use Rattle.cover.proofs.fine.split_rule.Needs as need
 
 pub loop-b-holds : need.loop-b-holds
-loop-b-holds c = (splitting-start (deps (c .args .rules .now)) (dep (c .args .rule)) (deps (queued (c .args .queue .now))), refl, refl)
+loop-b-holds c = (splitting-start (deps (c .args .rules .now)) (dep (c .args .rule)) (deps (queued (c .args .queue .now))), refl)
 
 pub push-requires : need.push-requires
-push-requires c κs = omega (arith, c .pre, c .loop-b .inv .2, ap length (c .in-Some .ensures tt))
+push-requires c κs = omega (arith, c .pre, c .loop-b .inv .1, ap length (c .in-Some .ensures tt))
 
 pub loop-b-again : need.loop-b-again
 loop-b-again c =
@@ -33,8 +33,7 @@ loop-b-again c =
       subst (λ (v : List Dep). Splitting ds (dep (c .args .rule)) rest fs v) (sym e)
           (splitting-turn ds (dep (c .args .rule)) (c .in-Some .b .index) (cols (c .loop-b .todo)) rest fs (deps old) (cols (c .reduce-left .result)) (c .in-Some .ensures tt)
           (c .loop-b .inv .0) (cols-rising (c .reduce-left .result)) (c .reduce-left .ensures)),
-      c .push .ensures .1 ∙ c .loop-b .inv .1,
-      omega (arith, c .push .ensures .2, c .loop-b .inv .2, ap length (c .in-Some .ensures tt)),
+      omega (arith, c .push .ensures .1, c .loop-b .inv .1, ap length (c .in-Some .ensures tt)),
     )
 
 pub returns : need.returns
@@ -42,6 +41,5 @@ returns c =
     let e = c .in-rest .ensures tt .0 in
     record {
       says = splitting-end (deps (c .args .rules .now)) (dep (c .args .rule)) (cols (c .loop-b .todo)) _ _ e (c .loop-b .inv .0);
-      first = c .loop-b .inv .1;
-      end = omega (arith, ap length e, c .loop-b .inv .2);
+      room = omega (arith, ap length e, c .loop-b .inv .1);
     }
