@@ -1,6 +1,7 @@
 // Fine rules: one right column each, and no left column that it does not need.
 ghost use mathlib.Core.Path.{_≡_};
 ghost use mathlib.Core.Bool.{true};
+ghost use mathlib.Core.List.{[], _∷_};
 ghost use Prim.Native.Nat.{_+_, _*_, _≤_};
 ghost use lib.ListN.{length};
 ghost use Rattle.columns.specs.Cols.{has};
@@ -39,7 +40,18 @@ fn reduce(rules: &[Rule], left: ColumnSet, b: Column) -> ColumnSet
     needed
 }
 
-// Adds a fine rule for each right column of the rule. What one of them can do without, another may need, so each has a left side of its own.
+// The fine rule for one right column of the rule. What this column can do without, another may need, so each has a left side of its own.
+fn fine_rule(rules: &[Rule], rule: Rule, b: Column) -> Rule
+    ensures right { λ r. ⌜ cols (r .right) ≡ b .index ∷ [] ⌝ }
+    ensures left { λ r. ⌜ (has (closure-of (deps (now (rules .entry))) (cols (rule .left))) (b .index) ≡ true → Reduced (deps (now (rules .entry))) (cols (rule .left)) (b .index) (cols (r .left))) ⌝ }
+{
+    Rule {
+        left: reduce(rules, rule.left, b),
+        right: ColumnSet::single(b),
+    }
+}
+
+// Adds a fine rule for each right column of the rule.
 fn split_rule(rules: &[Rule], rule: Rule, queue: &mut Queue<Rule>)
     requires { ⌜ length (cols (rule .right)) ≤ spare (now queue) ⌝ }
     ensures says { λ _. ⌜ Splits (deps (now (rules .entry))) (dep rule) (deps (queued (now (queue .entry)))) (deps (queued (now (queue .exit)))) ⌝ }
@@ -47,11 +59,7 @@ fn split_rule(rules: &[Rule], rule: Rule, queue: &mut Queue<Rule>)
 {
     let mut todo = rule.right;
     while let Some(b) = todo.take_first() {
-        let left = reduce(rules, rule.left, b);
-        queue.push(Rule {
-            left,
-            right: ColumnSet::single(b),
-        });
+        queue.push(fine_rule(rules, rule, b));
     }
 }
 
