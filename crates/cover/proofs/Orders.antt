@@ -1,11 +1,16 @@
 -- Lists that keep the order of others: laws of it.
-use mathlib.Core.Path.{_≡_, refl, sym, ap, subst, _∙_}
+use mathlib.Core.Path.{_≡_, sym, ap, _∙_}
 use mathlib.Core.Bool.{true}
 use mathlib.Core.List.{List, [], _∷_, _++_, append-assoc}
+use mathlib.Core.Logic.{inl, inr}
+use Prim.Native.Nat.{_≤_}
+use native.Mathlib.Omega.{arith}
+use lib.ListN.{length}
 use Rattle.std.proofs.shelf.Lists.{append-nil}
-use Rattle.columns.specs.Cols.{Cols, all-in}
-use Rattle.dependencies.specs.Tables.{Dep, fixing}
-use Rattle.dependencies.specs.Rules.{dep, deps}
+use Rattle.columns.specs.Cols.{all-in}
+use Rattle.columns.specs.Members.{Sub}
+use Rattle.dependencies.specs.Tables.{Dep}
+use Rattle.dependencies.specs.Rules.{deps}
 use Rattle.dependencies.specs.declared.rules.Rule.{Rule}
 use Rattle.cover.specs.Ordered.{Part, no-more, left-out, taken, singles-of, singles, Narrowed, no-rule, dropped, narrowed}
 
@@ -22,6 +27,16 @@ part-through (taken p) (taken q) = taken (part-through p q)
 pub part-but : {A : Type 0} (us : List A) (x : A) (vs : List A) → Part (us ++ vs) (us ++ x ∷ vs)
 part-but [] x vs = left-out (part-all vs)
 part-but (u ∷ us) x vs = taken (part-but us x vs)
+
+pub part-sub : {A : Type 0} {xs ys : List A} → Part xs ys → Sub xs ys
+part-sub no-more x i = i
+part-sub (left-out p) x i = inr (part-sub p x i)
+part-sub (taken p) x i = elim i [ inl e ↦ inl e | inr j ↦ inr (part-sub p x j) ]
+
+pub part-short : {A : Type 0} {xs ys : List A} → Part xs ys → length xs ≤ length ys
+part-short no-more = omega arith
+part-short (left-out p) = omega (arith, part-short p)
+part-short (taken p) = omega (arith, part-short p)
 
 -- one more at the end of both
 pub narrowed-push : {xs ms : List Dep} (x m : Dep) → Narrowed xs ms → m .right ≡ x .right → all-in (m .left) (x .left) ≡ true → Narrowed (xs ++ x ∷ []) (ms ++ m ∷ [])

@@ -9,7 +9,7 @@ use Rattle.std.proofs.shelf.Tests.{cases-eq}
 use Rattle.columns.specs.Cols.{Cols, has, Rising}
 use Rattle.columns.specs.Members.{In}
 use Rattle.columns.proofs.Members.{in-left, in-right, in-either}
-use Rattle.columns.proofs.Columns.{has-in, in-has, all-in-sub}
+use Rattle.columns.proofs.Columns.{in-has, all-in-sub}
 use Rattle.dependencies.specs.Tables.{Dep, Implied, fixing}
 use Rattle.dependencies.specs.Closure.{closure}
 use Rattle.dependencies.proofs.Closures.{closure-grows}

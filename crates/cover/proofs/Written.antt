@@ -1,11 +1,11 @@
 -- Rules written as numbers, and read back from them.
 use mathlib.Core.Path.{_≡_, refl, sym, ap, subst, _∙_}
-use mathlib.Core.Bool.{true, _&&_}
-use mathlib.Core.List.{List, [], _∷_, _++_, append-assoc}
+use mathlib.Core.Bool.{true}
+use mathlib.Core.List.{List, [], _∷_, _++_}
 use mathlib.Core.Logic.{inl, inr}
 use Prim.Native.Nat.{ℕ, zero, suc, _+_, _*_, _^_, _≤_, _<_}
 use native.Mathlib.Omega.{arith}
-use lib.ListN.{length, getD, take, drop, set, length-append}
+use lib.ListN.{length, getD, take, drop, set}
 use Rattle.std.proofs.shelf.Lists.{drop-at, take-more, length-take-le}
 use Rattle.columns.specs.Cols.{Cols, columns, set-in}
 use Rattle.columns.specs.Members.{In, Sub}

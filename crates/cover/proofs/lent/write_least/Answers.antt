@@ -10,7 +10,6 @@ use Rattle.dependencies.specs.Rules.{deps}
 use Rattle.dependencies.specs.Tables.{proper?}
 use Rattle.dependencies.specs.declared.rules.Rule.{Rule}
 use Rattle.cover.specs.Answer.{Least-row}
-use Rattle.cover.specs.Held.{cover-rules}
 use Rattle.cover.specs.Least.{Least}
 use Rattle.cover.specs.Ordered.{Narrowed, singles}
 use Rattle.cover.proofs.Written.{written-row}
