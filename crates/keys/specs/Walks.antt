@@ -54,3 +54,8 @@ Prunes ds b (Fork h) = Divided b (h .with) (h .without) × (fixes? ds (cols (b .
 abbrev pub First : List Dep → Branch → Option ColumnSet → Type 0
 First ds b (Some s) = Key-in ds b (cols s) × ((k : Cols) → Key-in ds b k → before k (cols s) ≡ false)
 First ds b None = (k : Cols) → Key-in ds b k → ⊥
+
+-- the first key of p in the order of sets
+pub record First-key (ds : List Dep) (p k : Cols) : Type 0 where
+  pub key : Key ds p k
+  pub first : (j : Cols) → Rising j → Key ds p j → before j k ≡ false
