@@ -4,12 +4,14 @@ use mathlib.Core.List.{List, [], _∷_, _++_, append-assoc}
 use mathlib.Core.Logic.{_⊎_, inl, inr}
 use Prim.Native.Nat.{ℕ, _-_, _<_}
 use native.Mathlib.Omega.{arith}
-use lib.ListN.{length, length-append}
+use lib.ListN.{length}
 use Rattle.std.proofs.shelf.Lists.{append-nil}
 use Rattle.columns.specs.Members.{In, Sub}
 use Rattle.columns.proofs.Members.{in-left, in-right, in-either}
 use Rattle.columns.proofs.Shrink.{sub-front}
+use Rattle.cover.specs.Ordered.{Part}
 use Rattle.cover.specs.Trimmed.{Redundancy-laws, Trimming, Trimmed}
+use Rattle.cover.proofs.Orders.{part-all, part-through, part-but}
 
 no-split : {A : Type 0} (us vs : List A) (m : A) → [] ≡ us ++ m ∷ vs → ⊥
 no-split [] vs m e = let z : _≡_ {A = ℕ} 0 1 = cc in omega arith
@@ -42,8 +44,7 @@ module _ {A : Type 0} (redundant : List A → A → Type 0) (laws : Redundancy-l
   trimming-start fs =
       record {
         covers = λ m i. laws .own (fs ++ []) m (in-left fs [] m i);
-        inside = λ m i. elim (in-either fs [] m i) [ inl a ↦ a | inr z ↦ absurd z ];
-        few = omega (arith, length-append fs []);
+        ordered = part-all fs;
         needed = λ us vs m e f. no-split us vs m e;
       }
 
@@ -55,8 +56,7 @@ module _ {A : Type 0} (redundant : List A → A → Type 0) (laws : Redundancy-l
       = λ m i. elim i [ inl e ↦ subst (λ v. redundant (todo ++ kept) v) e f | inr j ↦ laws .own (todo ++ kept) m j ] in
       record {
         covers = λ m i. laws .through (todo ++ kept) (x ∷ (todo ++ kept)) all m (t .covers m i);
-        inside = λ m i. t .inside m (inr i);
-        few = omega (arith, t .few);
+        ordered = part-through (part-but kept x todo) (t .ordered);
         needed = λ us vs m e g. t .needed us vs m e (redundant-more (todo ++ (us ++ vs)) (x ∷ (todo ++ (us ++ vs))) (λ v i. inr i) m g);
       }
 
@@ -66,8 +66,7 @@ module _ {A : Type 0} (redundant : List A → A → Type 0) (laws : Redundancy-l
   trimming-keep fs x todo kept t f =
       record {
         covers = λ m i. redundant-more (x ∷ (todo ++ kept)) (todo ++ (kept ++ x ∷ [])) out m (t .covers m i);
-        inside = λ m i. t .inside m (back m i);
-        few = omega (arith, t .few, length-append todo kept, length-append todo (kept ++ x ∷ []), length-append kept (x ∷ []));
+        ordered = subst (λ v. Part v fs) (sym (append-assoc kept (x ∷ []) todo)) (t .ordered);
         needed = λ us vs m e g.
             elim (snoc-cases kept x us m vs e) [
               | inl a ↦ f (subst (λ v. redundant (todo ++ v) x) (sym (a .1)) (subst (λ v. redundant (todo ++ (us ++ vs)) v) (sym (a .0)) g))
@@ -95,13 +94,6 @@ module _ {A : Type 0} (redundant : List A → A → Type 0) (laws : Redundancy-l
           elim i [
             | inl e ↦ in-right todo (kept ++ x ∷ []) d (in-right kept (x ∷ []) d (inl e))
             | inr j ↦ sub-front todo kept (kept ++ x ∷ []) (λ v k. in-left kept (x ∷ []) v k) d j
-          ]
-
-      back : Sub (todo ++ (kept ++ x ∷ [])) (x ∷ (todo ++ kept))
-      back d i =
-          elim (in-either todo (kept ++ x ∷ []) d i) [
-            | inl a ↦ inr (in-left todo kept d a)
-            | inr a ↦ elim (in-either kept (x ∷ []) d a) [ inl b ↦ inr (in-right todo kept d b) | inr b ↦ elim b [ inl e ↦ inl e | inr z ↦ absurd z ] ]
           ]
 
   -- of the items, the first ones are still to be asked about

@@ -1,10 +1,11 @@
 -- Fine rules that say the same as given ones, of which none follows from the others, are a least set of them.
-use mathlib.Core.Path.{_≡_, refl, sym, ap, subst, _∙_}
+use mathlib.Core.Path.{_≡_, refl, sym, ap, subst}
 use mathlib.Core.Bool.{true}
 use mathlib.Core.List.{List, [], _∷_, _++_}
 use mathlib.Core.Logic.{inl, inr}
-use Prim.Native.Nat.{ℕ, _<_}
+use Prim.Native.Nat.{ℕ, _≤_, _<_}
 use lib.ListN.{length, getD}
+use Rattle.std.proofs.shelf.Lists.{append-nil}
 use Rattle.columns.specs.Cols.{has, all-in, Rising}
 use Rattle.columns.specs.Members.{In, Sub}
 use Rattle.columns.proofs.Members.{in-right, in-at}
@@ -18,8 +19,10 @@ use Rattle.dependencies.specs.declared.rules.Rule.{Rule}
 use Rattle.dependencies.proofs.Exact.{closure-implied, implied-closure}
 use Rattle.dependencies.proofs.Consequence.{All-follow, follows-through}
 use Rattle.cover.specs.Least.{Least}
+use Rattle.cover.specs.Ordered.{Part, Narrowed, singles}
 use Rattle.cover.specs.Trimmed.{Trimmed}
 use Rattle.cover.specs.Fine.{Fine, Fines, All-split}
+use Rattle.cover.proofs.Orders.{narrowed-part, part-deps, part-sub, part-short}
 use Rattle.cover.proofs.RuleLists.{in-deps, deps-in, deps-split}
 
 abbrev pub Redundant-rule : List Rule → Rule → Type 0
@@ -29,8 +32,18 @@ module _ (ds : List Dep) (fs kept : List Rule) (a : All-split ds ds (deps fs)) (
   abbrev ms : List Dep
   ms = deps kept
 
+  kept-part : Part kept fs
+  kept-part = subst (λ v. Part v fs) (append-nil kept) (t .ordered)
+
+  pub kept-few : length kept ≤ length fs
+  kept-few = part-short kept-part
+
   pub kept-fine : Fines ds ms
-  kept-fine m i = let r = deps-in kept m i in a .fine m (subst (λ v. In v (deps fs)) (r .2) (in-deps fs (r .0) (t .inside (r .0) (r .1))))
+  kept-fine m i = let r = deps-in kept m i in a .fine m (subst (λ v. In v (deps fs)) (r .2) (in-deps fs (r .0) (part-sub kept-part (r .0) (r .1))))
+
+  -- in the order of the given rules and of their right columns
+  pub kept-ordered : Narrowed (singles ds) ms
+  kept-ordered = narrowed-part (a .ordered) (part-deps kept-part)
 
   at-fine : (i : ℕ) → i < length ms → Fine ds (getD ms i no-dep)
   at-fine i h = kept-fine (getD ms i no-dep) (in-at ms i no-dep h)

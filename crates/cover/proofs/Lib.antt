@@ -3,8 +3,10 @@ pub mod Keeping
 pub mod LeastMade
 pub mod LeastRules
 pub mod LeastTold
+pub mod Orders
 pub mod Narrow
 pub mod ProperRules
 pub mod Queues
 pub mod RuleLists
 pub mod Splitting
+pub mod Written

@@ -5,7 +5,7 @@ use mathlib.Core.List.{List, [], _∷_}
 use mathlib.Core.Logic.{inl, inr}
 use Prim.Native.Nat.{ℕ}
 use lib.Dec.{eqb}
-use Rattle.std.proofs.shelf.Tests.{true≢false, false≢true, cases-bool, cases-eq, and-parts, and-from, eq-eqb, ne-eqb, both-ways, not-true}
+use Rattle.std.proofs.shelf.Tests.{true≢false, cases-bool, cases-eq, and-parts, and-from, eq-eqb, ne-eqb, both-ways, not-true}
 use Rattle.columns.specs.Cols.{Cols, has}
 use Rattle.columns.specs.Members.{In, Sub}
 use Rattle.columns.proofs.Columns.{has-in, in-has, all-in-sub, sub-all-in, in-or-not}

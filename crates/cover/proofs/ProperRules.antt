@@ -1,5 +1,5 @@
 -- Rules that name only columns of a table of n: what the test says, fine rules made of them, and how many columns a side can have.
-use mathlib.Core.Path.{_≡_, refl, sym, subst}
+use mathlib.Core.Path.{_≡_, refl, subst}
 use mathlib.Core.Bool.{true, _&&_}
 use mathlib.Core.List.{List, [], _∷_}
 use mathlib.Core.Logic.{inl, inr}
@@ -11,7 +11,7 @@ use Rattle.columns.specs.Cols.{Cols, all-in, columns, Rising}
 use Rattle.columns.specs.Members.{In, Sub}
 use Rattle.columns.specs.Sets.{cols}
 use Rattle.columns.specs.declared.set.ColumnSet.{ColumnSet}
-use Rattle.columns.proofs.Columns.{has-in, in-has, all-in-sub, sub-all-in, below}
+use Rattle.columns.proofs.Columns.{in-has, all-in-sub, sub-all-in, below}
 use Rattle.columns.proofs.Rising.{rising-low, rising-rest}
 use Rattle.columns.proofs.SetNumbers.{cols-rising, cols-below}
 use Rattle.dependencies.specs.Tables.{Dep, proper?}

@@ -1,5 +1,5 @@
 -- The window of an array from a first place up to an end: one more behind it, and the front one taken off.
-use mathlib.Core.Path.{_≡_, sym, ap, subst, _∙_}
+use mathlib.Core.Path.{_≡_, ap, _∙_}
 use mathlib.Core.List.{List, [], _∷_, _++_}
 use Prim.Native.Nat.{ℕ, suc, _+_, _-_, _≤_, _<_}
 use native.Mathlib.Omega.{arith}
@@ -24,6 +24,3 @@ pub window-front : {X : Type 0} (xs : List X) (a b : ℕ) (d : X) → a < b → 
 window-front xs a b d h l =
     let p : b - a ≡ suc (b - (a + 1)) = omega arith in
     ap (λ k. take k (drop a xs)) p ∙ ap (λ v. take (suc (b - (a + 1))) v) (drop-more xs a d (omega arith))
-
-pub window-none : {X : Type 0} (xs : List X) (a b : ℕ) → a ≡ b → window xs a b ≡ []
-window-none xs a b h = let p : b - a ≡ 0 = omega arith in ap (λ k. take k (drop a xs)) p

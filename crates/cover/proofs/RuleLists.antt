@@ -1,10 +1,9 @@
 -- Lists of rules as the code has them, and the rules that they mean.
-use mathlib.Core.Path.{_≡_, refl, sym, ap, subst, _∙_}
+use mathlib.Core.Path.{_≡_, refl, ap, subst, _∙_}
 use mathlib.Core.List.{List, [], _∷_, _++_}
 use mathlib.Core.Logic.{inl, inr}
-use Prim.Native.Nat.{ℕ, suc}
+use Prim.Native.Nat.{ℕ}
 use native.Mathlib.Omega.{arith}
-use lib.ListN.{length}
 use Rattle.columns.specs.Members.{In}
 use Rattle.dependencies.specs.Tables.{Dep, Implied}
 use Rattle.dependencies.specs.Rules.{dep, deps}
@@ -21,16 +20,6 @@ pub deps-in : (xs : List Rule) (m : Dep) → In m (deps xs) → (x : Rule) × In
 unfolding deps
 deps-in [] m i = absurd i
 deps-in (y ∷ xs) m i = elim i [ inl e ↦ (y, inl refl, e) | inr j ↦ let r = deps-in xs m j in (r .0, inr (r .1), r .2) ]
-
-pub deps-append : (xs ys : List Rule) → deps (xs ++ ys) ≡ deps xs ++ deps ys
-unfolding deps
-deps-append [] ys = refl
-deps-append (x ∷ xs) ys = ap (λ v. dep x ∷ v) (deps-append xs ys)
-
-pub length-deps : (xs : List Rule) → length (deps xs) ≡ length xs
-unfolding deps
-length-deps [] = refl
-length-deps (x ∷ xs) = ap suc (length-deps xs)
 
 -- where a meant rule stands, there stands a rule that means it
 pub deps-split : (xs : List Rule) (us vs : List Dep) (m : Dep) → deps xs ≡ us ++ m ∷ vs

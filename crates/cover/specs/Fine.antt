@@ -1,12 +1,13 @@
 -- Rules with one right column and no left column too many, and lists of them on the way to a least set.
 use mathlib.Core.Path.{_≡_}
 use mathlib.Core.Bool.{true}
-use mathlib.Core.List.{List, [], _∷_}
+use mathlib.Core.List.{List, [], _∷_, _++_}
 use Prim.Native.Nat.{ℕ}
 use Rattle.columns.specs.Cols.{Cols, has, all-in, Rising}
 use Rattle.columns.specs.Members.{In, Sub}
 use Rattle.dependencies.specs.Tables.{Dep, Implied, fixing}
 use Rattle.dependencies.specs.Closure.{closure}
+use Rattle.cover.specs.Ordered.{Narrowed, singles, singles-of}
 
 -- of the columns l, some that fix the column b, and no part of which does
 pub record Reduced (ds : List Dep) (l : Cols) (b : ℕ) (r : Cols) : Type 0 where
@@ -37,11 +38,13 @@ pub record Splitting (ds : List Dep) (d : Dep) (todo : Cols) (fs gs : List Dep) 
   pub fine : In d ds → Fines ds fs → Fines ds gs
   pub more : More fs gs
   pub got : In d ds → (c : ℕ) → In c (d .right) → (In c todo → ⊥) → Implied gs (fixing (d .left) c)
+  pub ordered : In d ds → (xs : List Dep) → Narrowed xs fs → (ys : List Dep) × Narrowed ys gs × (ys ++ singles-of d todo ≡ xs ++ singles-of d (d .right))
 
 abbrev pub Splits : (ds : List Dep) (d : Dep) (fs gs : List Dep) → Type 0
 Splits ds d fs gs = Splitting ds d [] fs gs
 
--- gs are fine rules of ds that say what the rules es say
+-- gs are fine rules of ds that say what the rules es say, in their order
 pub record All-split (ds es gs : List Dep) : Type 0 where
   pub fine : Fines ds gs
   pub got : (d : Dep) → In d es → Implied gs d
+  pub ordered : Narrowed (singles es) gs

@@ -1,6 +1,7 @@
 // Fine rules: one right column each, and no left column that it does not need.
 ghost use mathlib.Core.Path.{_≡_};
 ghost use mathlib.Core.Bool.{true};
+ghost use mathlib.Core.List.{[], _∷_};
 ghost use Prim.Native.Nat.{_+_, _*_, _≤_};
 ghost use lib.ListN.{length};
 ghost use Rattle.columns.specs.Cols.{has};
@@ -9,7 +10,7 @@ ghost use Rattle.dependencies.specs.Closure.{closure as closure-of};
 ghost use Rattle.dependencies.specs.Reads.{rules-of};
 ghost use Rattle.dependencies.specs.Rules.{dep, deps};
 ghost use Rattle.cover.specs.Fine.{Reduced, Splits, All-split};
-ghost use Rattle.cover.specs.Queued.{queued};
+ghost use Rattle.cover.specs.Queued.{queued, spare};
 use crate::queue::Queue;
 use columns::Column;
 use columns::ColumnSet;
@@ -39,28 +40,33 @@ fn reduce(rules: &[Rule], left: ColumnSet, b: Column) -> ColumnSet
     needed
 }
 
-// Adds a fine rule for each right column of the rule. What one of them can do without, another may need, so each has a left side of its own.
+// The fine rule for one right column of the rule. What this column can do without, another may need, so each has a left side of its own.
+fn fine_rule(rules: &[Rule], rule: Rule, b: Column) -> Rule
+    ensures right { λ r. ⌜ cols (r .right) ≡ b .index ∷ [] ⌝ }
+    ensures left { λ r. ⌜ (has (closure-of (deps (now (rules .entry))) (cols (rule .left))) (b .index) ≡ true → Reduced (deps (now (rules .entry))) (cols (rule .left)) (b .index) (cols (r .left))) ⌝ }
+{
+    Rule {
+        left: reduce(rules, rule.left, b),
+        right: ColumnSet::single(b),
+    }
+}
+
+// Adds a fine rule for each right column of the rule.
 fn split_rule(rules: &[Rule], rule: Rule, queue: &mut Queue<Rule>)
-    requires { ⌜ now queue .end + length (cols (rule .right)) ≤ 1026 ⌝ }
+    requires { ⌜ length (cols (rule .right)) ≤ spare (now queue) ⌝ }
     ensures says { λ _. ⌜ Splits (deps (now (rules .entry))) (dep rule) (deps (queued (now (queue .entry)))) (deps (queued (now (queue .exit)))) ⌝ }
-    ensures first { λ _. ⌜ now (queue .exit) .first ≡ now (queue .entry) .first ⌝ }
-    ensures end { λ _. ⌜ now (queue .exit) .end ≡ now (queue .entry) .end + length (cols (rule .right)) ⌝ }
+    ensures room { λ _. ⌜ spare (now (queue .exit)) + length (cols (rule .right)) ≡ spare (now (queue .entry)) ⌝ }
 {
     let mut todo = rule.right;
     while let Some(b) = todo.take_first() {
-        let left = reduce(rules, rule.left, b);
-        queue.push(Rule {
-            left,
-            right: ColumnSet::single(b),
-        });
+        queue.push(fine_rule(rules, rule, b));
     }
 }
 
 // Fine rules that say what the given rules say, in the order of these and of their right columns.
 pub(crate) fn split(set: &RuleSet) -> Queue<Rule>
     ensures says { λ r. ⌜ All-split (deps (rules-of (now (set .entry)))) (deps (rules-of (now (set .entry)))) (deps (queued r)) ⌝ }
-    ensures first { λ r. ⌜ r .first ≡ 0 ⌝ }
-    ensures few { λ r. ⌜ r .end ≤ now (set .entry) .width .columns * now (set .entry) .count ⌝ }
+    ensures room { λ r. ⌜ 1024 ≤ spare r + now (set .entry) .width .columns * now (set .entry) .count ⌝ }
 {
     let nothing = ColumnSet::empty();
     let mut queue = Queue::new(Rule {

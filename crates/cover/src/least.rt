@@ -8,6 +8,7 @@ ghost use Rattle.dependencies.specs.Rules.{deps};
 ghost use Rattle.dependencies.specs.Tables.{proper?};
 ghost use Rattle.cover.specs.Held.{cover-rules};
 ghost use Rattle.cover.specs.Least.{Least};
+ghost use Rattle.cover.specs.Ordered.{Narrowed, singles};
 use crate::fine::split;
 use crate::held::Cover;
 use crate::redundant_rules::RuleRedundancy;
@@ -44,6 +45,7 @@ fn cover_of(rules: &[Rule]) -> Cover
 // A least set of rules that says the same, in the order of the given rules and of their right columns.
 pub fn least_cover(set: &RuleSet) -> Cover
     ensures least { λ r. ⌜ Least (deps (rules-of (now (set .entry)))) (deps (cover-rules r)) ⌝ }
+    ensures ordered { λ r. ⌜ Narrowed (singles (deps (rules-of (now (set .entry))))) (deps (cover-rules r)) ⌝ }
     ensures proper { λ r. ⌜ proper? (now (set .entry) .width .columns) (deps (cover-rules r)) ≡ true ⌝ }
     ensures few { λ r. ⌜ length (cover-rules r) ≤ now (set .entry) .width .columns * now (set .entry) .count ⌝ }
 {

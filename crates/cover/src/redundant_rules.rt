@@ -6,7 +6,7 @@ use dependencies::Implication;
 use dependencies::Rule;
 use dependencies::follows;
 
-pub impl Redundancy for Rule as RuleRedundancy {
+pub(crate) impl Redundancy for Rule as RuleRedundancy {
     ghost redundant = { λ others rule. Implied (deps others) (dep rule) };
 
     fn is_redundant(self, others: &[Rule]) -> bool {

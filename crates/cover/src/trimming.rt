@@ -1,11 +1,13 @@
-// To leave out of a queue what is redundant beside the others: rules that follow from the rest, sets inside other sets.
+// To leave out of a queue what is redundant beside the others, whatever it holds and whatever makes it redundant.
 ghost use mathlib.Core.List.{List};
-ghost use Prim.Native.Nat.{_+_, _-_, _≤_};
-ghost use Rattle.cover.specs.Queued.{queued};
+ghost use Prim.Native.Nat.{_≤_};
+ghost use lib.ListN.{length};
+ghost use Rattle.cover.specs.Queued.{queued, spare};
 ghost use Rattle.cover.specs.Trimmed.{Redundancy-laws, Trimmed, Decides};
 use crate::queue::Queue;
 
-pub trait Redundancy: Copy {
+// What may be left out of a list beside the others.
+pub(crate) trait Redundancy: Copy {
     // Beside the members of the list this one is not needed.
     ghost redundant: { List Self → Self → Type 0 };
 
@@ -17,8 +19,8 @@ pub trait Redundancy: Copy {
 
 // Each item in turn is taken off the front, and put back at the end unless it is redundant beside the others.
 // What is kept stands in the order in which it stood.
-pub fn drop_redundant<T: Redundancy>(queue: &mut Queue<T>)
-    requires { ⌜ now queue .end + (now queue .end - now queue .first) ≤ 1026 ⌝ }
+pub(crate) fn drop_redundant<T: Redundancy>(queue: &mut Queue<T>)
+    requires { ⌜ length (queued (now queue)) ≤ spare (now queue) ⌝ }
     ensures { λ _. ⌜ Trimmed redundant (queued (now (queue .entry))) (queued (now (queue .exit))) ⌝ }
 {
     let mut left = queue.items().len();

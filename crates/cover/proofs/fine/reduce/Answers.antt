@@ -1,4 +1,4 @@
-use mathlib.Core.Path.{_≡_, sym}
+use mathlib.Core.Path.{sym}
 use Rattle.columns.specs.Sets.{cols}
 use Rattle.dependencies.specs.Rules.{deps}
 use Rattle.cover.proofs.Narrow.{narrow-start, narrow-leave, narrow-keep, narrow-end}

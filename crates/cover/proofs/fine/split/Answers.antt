@@ -1,10 +1,10 @@
-use mathlib.Core.Path.{_≡_, refl, sym, ap, subst, _∙_}
+use mathlib.Core.Path.{_≡_, sym, ap, subst, _∙_}
 use mathlib.Core.List.{List, [], _∷_, _++_}
-use Prim.Native.Nat.{ℕ, suc, _+_, _*_, _≤_, _<_}
-use native.Mathlib.Nat.{mul-suc, mul-le-mul-left}
+use Prim.Native.Nat.{ℕ, _+_, _*_, _≤_}
+use native.Mathlib.Nat.{mul-suc, mul-le-mul, mul-le-mul-left}
 use native.Mathlib.Numerals.{add-one}
 use native.Mathlib.Omega.{arith}
-use lib.ListN.{take, length, getD}
+use lib.ListN.{take, length}
 use Rattle.std.proofs.shelf.Lists.{take-more, take-all, length-take}
 use Rattle.columns.specs.Members.{In}
 use Rattle.columns.specs.Sets.{cols}
@@ -26,9 +26,7 @@ pub loop-rule-holds : need.loop-rule-holds
 unfolding deps
 loop-rule-holds c =
     let q = c .new-queue .ensures in (
-      subst (λ (v : List Rule). All-split (deps (c .rules-rules .result .now)) [] (deps v)) (sym (q .2)) (all-start (deps (c .rules-rules .result .now))),
-      q .0,
-      omega (arith, q .1),
+      subst (λ (v : List Rule). All-split (deps (c .rules-rules .result .now)) [] (deps v)) (sym (q .0)) (all-start (deps (c .rules-rules .result .now))),
       omega (arith, q .1),
     )
 
@@ -37,8 +35,10 @@ length-rules set rules e = omega (arith, ap length e, length-take (set .count) (
 
 pub split-rule-requires : need.split-rule-requires
 split-rule-requires c κs =
-    let n : length (c .rules-rules .result .now) ≤ c .args .set .now .count = length-rules (c .args .set .now) (c .rules-rules .result .now) (c .rules-rules .ensures) in
-    omega (arith, c .loop-rule .inv .2, set-short (c .rule-item .result .right), n, c .args .set .now .few)
+    let set = c .args .set .now in
+    let n : length (c .rules-rules .result .now) ≤ set .count = length-rules set (c .rules-rules .result .now) (c .rules-rules .ensures) in
+    let i : c .loop-rule .rule-index ≤ 32 = omega (arith, n, set .few) in
+    omega (arith, c .loop-rule .inv .1, set-short (c .rule-item .result .right), mul-le-mul (set .width .narrow) i)
 
 pub loop-rule-again : need.loop-rule-again
 loop-rule-again c =
@@ -58,9 +58,7 @@ loop-rule-again c =
     let gs = deps (queued (c .split-rule .last .queue)) in (
       subst (λ (v : List Dep). All-split ds v gs) (sym e)
           (all-turn ds (deps (take i xs)) (deps (queued (c .loop-rule .queue))) (dep x) gs given (c .loop-rule .inv .0) (c .split-rule .ensures .says)),
-      c .split-rule .ensures .first ∙ c .loop-rule .inv .1,
-      omega (arith, c .split-rule .ensures .end, c .loop-rule .inv .2, set-short (x .right)),
-      omega (arith, c .split-rule .ensures .end, c .loop-rule .inv .3, short, m),
+      omega (arith, c .split-rule .ensures .room, c .loop-rule .inv .1, short, m),
     )
 
 pub returns : need.returns
@@ -75,6 +73,5 @@ returns c =
     let gs = deps (queued (c .loop-rule .queue)) in
     record {
       says = subst (λ (v : List Rule). All-split (deps v) (deps v) gs) (c .rules-rules .ensures) (subst (λ (v : List Rule). All-split (deps xs) (deps v) gs) f (c .loop-rule .inv .0));
-      first = c .loop-rule .inv .1;
-      few = omega (arith, c .loop-rule .inv .3, mul-le-mul-left w k);
+      room = omega (arith, c .loop-rule .inv .1, mul-le-mul-left w k);
     }

@@ -1,12 +1,11 @@
 use mathlib.Core.Path.{_≡_, refl, sym, ap, subst, _∙_}
 use mathlib.Core.List.{List, [], _∷_, _++_}
-use Prim.Native.Nat.{ℕ, suc}
 use native.Mathlib.Omega.{arith}
 use lib.ListN.{length}
 use Rattle.columns.specs.Cols.{Cols}
 use Rattle.columns.specs.Sets.{cols}
 use Rattle.columns.proofs.SetNumbers.{cols-rising}
-use Rattle.dependencies.specs.Tables.{Dep}
+use Rattle.dependencies.specs.Tables.{Dep, fixing}
 use Rattle.dependencies.specs.Rules.{dep, deps}
 use Rattle.dependencies.specs.declared.rules.Rule.{Rule}
 use Rattle.dependencies.proofs.Layouts.{deps-push}
@@ -16,10 +15,10 @@ use Rattle.cover.proofs.Splitting.{splitting-start, splitting-turn, splitting-
 use Rattle.cover.proofs.fine.split_rule.Needs as need
 
 pub loop-b-holds : need.loop-b-holds
-loop-b-holds c = (splitting-start (deps (c .args .rules .now)) (dep (c .args .rule)) (deps (queued (c .args .queue .now))), refl, refl)
+loop-b-holds c = (splitting-start (deps (c .args .rules .now)) (dep (c .args .rule)) (deps (queued (c .args .queue .now))), refl)
 
 pub push-requires : need.push-requires
-push-requires c κs = omega (arith, c .pre, c .loop-b .inv .2, ap length (c .in-Some .ensures tt))
+push-requires c κs = omega (arith, c .pre, c .loop-b .inv .1, ap length (c .in-Some .ensures tt))
 
 pub loop-b-again : need.loop-b-again
 loop-b-again c =
@@ -27,14 +26,13 @@ loop-b-again c =
     let fs = deps (queued (c .args .queue .now)) in
     let old = queued (c .loop-b .queue) in
     let rest = cols (c .take-first .last .self) in
-    let x : Rule = record { left = c .reduce-left .result; right = c .single .result } in
-    let e : deps (queued (c .push .last .self)) ≡ deps old ++ record { left = cols (c .reduce-left .result); right = c .in-Some .b .index ∷ [] } ∷ []
-    = ap deps (c .push .ensures .0) ∙ deps-push old x ∙ ap (λ (v : Cols). deps old ++ record { left = cols (c .reduce-left .result); right = v } ∷ []) (c .single .ensures) in (
+    let x : Rule = c .fine-rule .result in
+    let e : deps (queued (c .push .last .self)) ≡ deps old ++ fixing (cols (x .left)) (c .in-Some .b .index) ∷ []
+    = ap deps (c .push .ensures .0) ∙ deps-push old x ∙ ap (λ (v : Cols). deps old ++ record { left = cols (x .left); right = v } ∷ []) (c .fine-rule .ensures .right) in (
       subst (λ (v : List Dep). Splitting ds (dep (c .args .rule)) rest fs v) (sym e)
-          (splitting-turn ds (dep (c .args .rule)) (c .in-Some .b .index) (cols (c .loop-b .todo)) rest fs (deps old) (cols (c .reduce-left .result)) (c .in-Some .ensures tt)
-          (c .loop-b .inv .0) (cols-rising (c .reduce-left .result)) (c .reduce-left .ensures)),
-      c .push .ensures .1 ∙ c .loop-b .inv .1,
-      omega (arith, c .push .ensures .2, c .loop-b .inv .2, ap length (c .in-Some .ensures tt)),
+          (splitting-turn ds (dep (c .args .rule)) (c .in-Some .b .index) (cols (c .loop-b .todo)) rest fs (deps old) (cols (x .left)) (c .in-Some .ensures tt)
+          (c .loop-b .inv .0) (cols-rising (x .left)) (c .fine-rule .ensures .left)),
+      omega (arith, c .push .ensures .1, c .loop-b .inv .1, ap length (c .in-Some .ensures tt)),
     )
 
 pub returns : need.returns
@@ -42,6 +40,5 @@ returns c =
     let e = c .in-rest .ensures tt .0 in
     record {
       says = splitting-end (deps (c .args .rules .now)) (dep (c .args .rule)) (cols (c .loop-b .todo)) _ _ e (c .loop-b .inv .0);
-      first = c .loop-b .inv .1;
-      end = omega (arith, ap length e, c .loop-b .inv .2);
+      room = omega (arith, ap length e, c .loop-b .inv .1);
     }

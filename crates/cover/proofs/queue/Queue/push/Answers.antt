@@ -1,5 +1,3 @@
-use borrow.Author.Needs.{needs}
-use mathlib.Core.Path.{refl}
 use Prim.Native.Nat.{_<_}
 use lib.ListN.{length}
 use native.Mathlib.Omega.{arith}
@@ -10,4 +8,4 @@ pub returns : need.returns
 returns g c =
     let q = c .args .self .now in
     let l : q .end < length (q .cells) = omega arith in
-    (window-push (q .cells) (q .first) (q .end) (c .args .item) (q .ordered) l, refl, refl)
+    (window-push (q .cells) (q .first) (q .end) (c .args .item) (q .ordered) l, omega arith)

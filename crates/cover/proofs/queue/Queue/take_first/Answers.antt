@@ -1,4 +1,3 @@
-use borrow.Author.Needs.{needs}
 use mathlib.Core.Path.{refl}
 use Prim.Native.Nat.{_<_, _≤_}
 use lib.ListN.{length}
@@ -11,4 +10,4 @@ returns g c =
     let q = c .args .self .now in
     let l : q .end ≤ length (q .cells) = omega arith in
     let h : q .first < q .end = omega arith in
-    (window-front (q .cells) (q .first) (q .end) (c .index-self-self .result) h l, refl, refl)
+    (window-front (q .cells) (q .first) (q .end) (c .index-self-self .result) h l, refl)
