@@ -1,8 +1,14 @@
 pub mod Branches
 pub mod Dividing
 pub mod Entire
+pub mod Existing
 pub mod Forked
 pub mod Keys
 pub mod KeysListed
+pub mod Lists
+pub mod Numbered
 pub mod Orderly
+pub mod Rooms
 pub mod Sparing
+pub mod Walking
+pub mod Written

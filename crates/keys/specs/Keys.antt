@@ -23,6 +23,10 @@ pub record All-keys (ds : List Dep) (p : Cols) (ks : List Cols) : Type 0 where
   pub keys : (k : Cols) → Listed k ks → Key ds p k
   pub all : (k : Cols) → Rising k → Key ds p k → Listed k ks
 
+-- Any set has a list of all its keys, under any rules.
+unfoldable pub Keys-exist : Type 0
+Keys-exist = (ds : List Dep) (p : Cols) → Rising p → (ks : List Cols) × All-keys ds p ks
+
 -- There is always a key, and the list of keys is one.
 unfoldable pub Keys-one : Type 0
 Keys-one =

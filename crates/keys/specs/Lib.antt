@@ -1,2 +1,5 @@
+pub mod Answer
 pub mod Keys
+pub mod Listed
+pub mod Room
 pub mod Walks
