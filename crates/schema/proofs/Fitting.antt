@@ -1,5 +1,5 @@
 -- The sets of a plan are those of a design.
-use mathlib.Core.Path.{_≡_, refl, sym, ap, subst, _∙_}
+use mathlib.Core.Path.{_≡_, refl, sym, subst}
 use mathlib.Core.Bool.{true}
 use mathlib.Core.Logic.{inl, inr}
 use mathlib.Core.List.{List, [], _∷_, _++_}
@@ -8,7 +8,7 @@ use Rattle.columns.specs.Cols.{Cols, columns}
 use Rattle.columns.specs.Members.{In, Sub}
 use Rattle.columns.specs.Sets.{cols}
 use Rattle.columns.specs.declared.set.ColumnSet.{ColumnSet}
-use Rattle.columns.proofs.Members.{in-left, in-either}
+use Rattle.columns.proofs.Members.{in-either}
 use Rattle.columns.proofs.Columns.{all-in-sub, below, has-in}
 use Rattle.columns.proofs.Everyone.{any-some}
 use Rattle.columns.proofs.SetNumbers.{bits-below}
@@ -22,7 +22,7 @@ use Rattle.cover.proofs.ProperRules.{proper-at}
 use Rattle.keys.specs.Keys.{Key}
 use Rattle.schema.specs.Design.{Design, Third-form}
 use Rattle.schema.specs.Made.{parts-of}
-use Rattle.schema.specs.Gathers.{Gathered, Of-left-side, Held, Holding, Keyed}
+use Rattle.schema.specs.Gathers.{Gathered, Of-left-side, Holding, Keyed}
 use Rattle.schema.specs.Plans.{Small-rules, Small-sets}
 use Rattle.schema.specs.Sets.{sets-of, with-set}
 use Rattle.schema.proofs.ThirdForms.{key-third}

@@ -1,16 +1,15 @@
 -- To leave out of an array, place by place, what a test holds of: the others move up, in order.
-use mathlib.Core.Path.{_≡_, refl, sym, ap, subst, _∙_}
+use mathlib.Core.Path.{_≡_, refl, sym, ap, _∙_}
 use mathlib.Core.Bool.{Bool, true, false, _||_}
 use mathlib.Core.Logic.{inl, inr}
 use mathlib.Core.List.{List, [], _∷_, _++_}
 use Prim.Native.Nat.{ℕ, suc, _+_, _≤_, _<_}
-use native.Mathlib.Numerals.{add-one}
 use native.Mathlib.Omega.{arith}
 use lib.ListN.{length, take, drop, set, getD}
 use Rattle.std.proofs.shelf.Lists.{take-more, drop-more, take-more-set, drop-set-lt, append-nil, length-set}
 use Rattle.columns.specs.Cols.{pick}
 use Rattle.columns.specs.Every.{any}
-use Rattle.columns.specs.Members.{In, Sub}
+use Rattle.columns.specs.Members.{Sub}
 use Rattle.columns.proofs.Lists.{or-assoc}
 use Rattle.schema.specs.Sets.{those, others}
 

@@ -1,28 +1,24 @@
 -- The answer in full, from the parts that are written.
 use mathlib.Core.Path.{_≡_, refl, sym, ap, subst, _∙_}
-use mathlib.Core.Bool.{true}
 use mathlib.Core.List.{List, [], _∷_, _++_}
 use Prim.Native.Nat.{ℕ, _+_, _*_, _≤_}
 use native.Mathlib.Omega.{arith}
 use lib.ListN.{length, drop, length-append}
-use Rattle.std.specs.declared.result.Result.the-variants.{Ok}
 use Rattle.std.proofs.shelf.Lists.{length-drop, drop-at}
 use Rattle.columns.specs.declared.set.ColumnSet.{ColumnSet}
 use Rattle.dependencies.specs.Tables.{Dep}
 use Rattle.dependencies.specs.Layout.{columns-of, count-of, rules-of-row}
 use Rattle.dependencies.specs.Lent.{put-list}
-use Rattle.dependencies.specs.Reads.{Reads, rules-of}
 use Rattle.dependencies.specs.Rules.{deps}
-use Rattle.dependencies.specs.declared.held.RuleSet.{RuleSet}
 use Rattle.dependencies.specs.declared.rules.Rule.{Rule}
 use Rattle.dependencies.proofs.Lent.{put-fits}
-use Rattle.schema.specs.Design.{Part, Design}
+use Rattle.schema.specs.Design.{Design}
 use Rattle.schema.specs.Designed.{Designed}
 use Rattle.schema.specs.Layout.{parts-in, extent, parts-fit}
 use Rattle.schema.specs.Plans.{Small-rules, Small-sets}
 use Rattle.schema.specs.Made.{parts-of}
 use Rattle.schema.specs.Sets.{sets-of}
-use Rattle.schema.specs.Writing.{inside, over, one-part, encoded}
+use Rattle.schema.specs.Writing.{over, one-part, encoded}
 use Rattle.schema.proofs.Written.{part-length}
 use Rattle.schema.proofs.Decoding.{read-parts, read-extent, read-fit}
 use Rattle.schema.proofs.Synthesis.{parts-length}
@@ -70,9 +66,6 @@ module _ (n many : ℕ) (ds : List Dep) (rs : List Rule) (ss : List ColumnSet) (
   end =
       let two : 1 + length E ≡ length (k ∷ E) = omega arith in
       ap (λ (j : ℕ). drop j row) two ∙ drop-at (k ∷ E) tail (length (k ∷ E)) refl ∙ ap (λ (j : ℕ). drop j out) (sym two)
-
-  abbrev Said : ℕ → List Dep → ℕ → List ℕ → Type 0
-  Said m es c o = (xs : List ℕ) → columns-of xs ≡ m → rules-of-row xs ≡ es → count-of xs ≡ c → Designed xs out k o
 
   in-row : (xs : List ℕ) → columns-of xs ≡ n → rules-of-row xs ≡ ds → count-of xs ≡ many → Designed xs out k row
   in-row xs a b c =

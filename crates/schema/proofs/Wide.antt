@@ -1,13 +1,13 @@
 -- One set more, where those that lie inside another go: what was held stays held, and none lies inside another.
-use mathlib.Core.Path.{_≡_, refl, sym, ap, subst, _∙_}
-use mathlib.Core.Bool.{Bool, true, false}
+use mathlib.Core.Path.{_≡_, refl, sym, ap, subst}
+use mathlib.Core.Bool.{true, false}
 use mathlib.Core.Logic.{_⊎_, inl, inr}
 use mathlib.Core.List.{List, [], _∷_, _++_}
 use Prim.Native.Nat.{ℕ, zero, suc, _<_}
 use native.Mathlib.Omega.{arith}
 use lib.ListN.{length, getD}
-use Rattle.std.proofs.shelf.Tests.{cases-bool, both-ways}
-use Rattle.columns.specs.Cols.{Cols, all-in, pick}
+use Rattle.std.proofs.shelf.Tests.{both-ways}
+use Rattle.columns.specs.Cols.{Cols, all-in}
 use Rattle.columns.specs.Members.{In, Sub}
 use Rattle.columns.specs.Sets.{cols}
 use Rattle.columns.specs.declared.set.ColumnSet.{ColumnSet}

@@ -1,5 +1,5 @@
 -- Parts written one after the other, as one list of numbers.
-use mathlib.Core.Path.{_≡_, refl, sym, ap, subst, _∙_}
+use mathlib.Core.Path.{_≡_, refl, sym, ap, _∙_}
 use mathlib.Core.Bool.{Bool, true, false}
 use mathlib.Core.List.{List, [], _∷_, _++_, append-assoc}
 use Prim.Native.Nat.{ℕ, zero, suc, _+_, _-_, _*_, _<_, _≤_}
@@ -7,7 +7,7 @@ use native.Mathlib.Numerals.{add-one}
 use native.Mathlib.Omega.{arith}
 use lib.ListN.{length, take, drop, set, getD, length-append}
 use borrow.Rule.Slice.PartMut.{putMid}
-use Rattle.std.proofs.shelf.Lists.{take-more, drop-more, append-nil, drop-all, length-drop, length-take, take-rest, set-comm, take-all}
+use Rattle.std.proofs.shelf.Lists.{take-more, drop-more, append-nil, drop-all, length-drop, take-rest, set-comm, take-all}
 use Rattle.columns.specs.Cols.{pick}
 use Rattle.columns.specs.declared.set.ColumnSet.{ColumnSet}
 use Rattle.dependencies.specs.declared.rules.Rule.{Rule}

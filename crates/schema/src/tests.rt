@@ -62,6 +62,16 @@ fn a_part_inside_another_goes() -> Result<(), Fail> {
     gives(&[3, 2, 1, 2, 6, 1], 1, &[1, 7, 2, 1, 2, 6, 1])
 }
 
+// 0 fixes 1 and 2, 1 and 3 fix 0: that 0 fixes 1 lies in both parts, and the first owns it.
+#[test]
+fn each_rule_in_one_part() -> Result<(), Fail> {
+    gives(
+        &[4, 2, 1, 6, 10, 1],
+        2,
+        &[2, 7, 2, 1, 2, 1, 4, 11, 1, 10, 1],
+    )
+}
+
 // 0 fixes 1, and 2 stands alone: without the key 0 2 nothing would say which 0 goes with which 2.
 #[test]
 fn a_key_where_no_part_fixes_all() -> Result<(), Fail> {

@@ -6,7 +6,6 @@ use lib.ListN.{take, length}
 use Rattle.std.proofs.shelf.Lists.{take-more, take-all, length-take}
 use Rattle.columns.specs.Cols.{Cols}
 use Rattle.columns.specs.Members.{In}
-use Rattle.columns.specs.Sets.{cols}
 use Rattle.columns.specs.declared.set.ColumnSet.{ColumnSet}
 use Rattle.columns.proofs.Members.{in-at}
 use Rattle.cover.proofs.RuleLists.{in-deps}

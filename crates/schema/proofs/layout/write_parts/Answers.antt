@@ -1,6 +1,6 @@
 use native.Mathlib.Omega.{arith}
 use Prim.Native.Nat.{_≤_, _-_}
-use lib.ListN.{length, take, drop}
+use lib.ListN.{length, drop}
 use Rattle.std.proofs.shelf.Lists.{length-take, length-drop}
 use Rattle.schema.specs.Writing.{left-in}
 use Rattle.schema.proofs.Written.{part-length, partly-start, partly-turn, partly-end}

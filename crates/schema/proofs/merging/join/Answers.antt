@@ -1,10 +1,8 @@
-use mathlib.Core.Path.{_≡_, refl, sym, ap, subst, _∙_}
+use mathlib.Core.Path.{refl, ap}
 use mathlib.Core.Logic.{inl, inr}
-use mathlib.Core.Bool.{true, false}
+use mathlib.Core.Bool.{false}
 use Rattle.std.proofs.shelf.Tests.{both-ways}
 use Rattle.columns.specs.Cols.{Cols, has}
-use Rattle.columns.specs.Sets.{cols}
-use Prim.Native.Nat.{ℕ}
 use Rattle.columns.proofs.SetNumbers.{same-bits}
 use Rattle.schema.proofs.Gathering.{same-set}
 use Rattle.schema.proofs.merging.join.Needs as need

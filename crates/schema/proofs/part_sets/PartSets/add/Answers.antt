@@ -1,13 +1,13 @@
-use mathlib.Core.Path.{_≡_, refl, sym, ap, _∙_}
+use mathlib.Core.Path.{_≡_, sym, ap, _∙_}
 use mathlib.Core.Bool.{Bool, false}
 use mathlib.Core.List.{List, _∷_, [], _++_}
-use Prim.Native.Nat.{ℕ, _+_, _<_}
+use Prim.Native.Nat.{_<_}
 use native.Mathlib.Omega.{arith}
-use lib.ListN.{take, length}
+use lib.ListN.{length}
 use Rattle.std.proofs.shelf.Lists.{take-more-set}
 use Rattle.columns.specs.Cols.{pick}
 use Rattle.columns.specs.declared.set.ColumnSet.{ColumnSet}
-use Rattle.schema.specs.Sets.{held?, outside, with-set, sets-in}
+use Rattle.schema.specs.Sets.{held?, outside, sets-in}
 use Rattle.schema.proofs.part_sets.PartSets.add.Needs as need
 
 pub returns : need.returns
