@@ -14,3 +14,7 @@ pub mod ThirdDecided
 pub mod ThirdForms
 pub mod TwoParts
 pub mod Verdicts
+pub mod GivenWalk
+pub mod Sweeping
+pub mod Tableaux
+pub mod GivenSmall

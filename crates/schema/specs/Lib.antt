@@ -5,3 +5,6 @@ pub mod Layout
 pub mod Judge
 pub mod Made
 pub mod Theorems
+pub mod Given
+pub mod Sweeps
+pub mod Deciding

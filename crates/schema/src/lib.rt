@@ -1,4 +1,8 @@
 // Designs: the parts into which a table is laid, each with rules of its own.
+mod chase;
+mod given_design;
+mod given_parts;
+mod own_rules;
 mod theorems;
 
 pub use theorems::chase_decides;
