@@ -18,3 +18,8 @@ pub mod GivenWalk
 pub mod Sweeping
 pub mod Tableaux
 pub mod GivenSmall
+pub mod GivenLoops
+pub mod Wholes
+pub mod Covered
+pub mod OwnRounds
+pub mod SuperkeyCounts

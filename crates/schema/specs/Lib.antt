@@ -8,3 +8,5 @@ pub mod Theorems
 pub mod Given
 pub mod Sweeps
 pub mod Deciding
+pub mod Kept
+pub mod Superkeys

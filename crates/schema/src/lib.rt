@@ -2,8 +2,12 @@
 mod chase;
 mod given_design;
 mod given_parts;
+mod keeping;
+mod opening;
 mod own_rules;
+mod spread;
 mod theorems;
+mod third;
 
 pub use theorems::chase_decides;
 pub use theorems::design_always_exists;
