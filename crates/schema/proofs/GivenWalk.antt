@@ -115,3 +115,8 @@ part-whole-suc k xs h =
 pub part-whole : (k : ℕ) (xs : List ℕ) → (k ≡ 0 → ⊥) → extent k xs ≤ length xs → Part-whole k xs
 part-whole zero xs e h = absurd (e refl)
 part-whole (suc k) xs e h = part-whole-suc k xs h
+
+pub parts-length : (n k : ℕ) (xs : List ℕ) → length (parts-in n k xs) ≡ k
+unfolding parts-in
+parts-length n zero xs = refl
+parts-length n (suc k) xs = ap suc (parts-length n k (drop (size xs) xs))

@@ -23,3 +23,5 @@ pub mod Wholes
 pub mod Covered
 pub mod OwnRounds
 pub mod SuperkeyCounts
+pub mod Judging
+pub mod Checking

@@ -10,3 +10,4 @@ pub mod Sweeps
 pub mod Deciding
 pub mod Kept
 pub mod Superkeys
+pub mod Check

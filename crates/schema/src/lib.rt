@@ -1,5 +1,6 @@
 // Designs: the parts into which a table is laid, each with rules of its own.
 mod chase;
+mod check;
 mod given_design;
 mod given_parts;
 mod keeping;
@@ -9,6 +10,11 @@ mod spread;
 mod theorems;
 mod third;
 
+pub use check::CheckFailure;
+pub use check::CheckFailureDebug;
+pub use check::CheckFailureEq;
+pub use check::CheckFailurePartialEq;
+pub use check::check_design;
 pub use theorems::chase_decides;
 pub use theorems::design_always_exists;
 pub use theorems::design_always_fits;
