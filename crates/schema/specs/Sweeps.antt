@@ -1,12 +1,12 @@
 -- The chase in whatever order: faults mended one after the other, and what a sweep over the tableau leaves.
 use mathlib.Core.Path.{_≡_}
 use mathlib.Core.Bool.{Bool, true, false}
-use mathlib.Core.List.{List, [], _∷_}
+use mathlib.Core.List.{List, [], _∷_, _++_}
 use mathlib.Core.Logic.{_⊎_}
-use Prim.Native.Nat.{ℕ, _<_}
-use lib.ListN.{length, getD}
+use Prim.Native.Nat.{ℕ, zero, suc, _<_}
+use lib.ListN.{length, getD, drop}
 use Rattle.columns.specs.Members.{In}
-use Rattle.dependencies.specs.Tables.{Row, Dep, agree}
+use Rattle.dependencies.specs.Tables.{Row, Dep, agree, zero-row}
 use Rattle.schema.specs.Chase.{Fault, faults, mend, total}
 use Rattle.schema.specs.declared.chase.Merge.{Merge}
 
@@ -58,3 +58,12 @@ abbrev pub Merged : ℕ → ℕ → ℕ → List Row → List Row → Bool → T
 Merged c i j t u changed =
     (changed ≡ false → (u ≡ t) × (getD (getD t i []) c 0 ≡ getD (getD t j []) c 0))
     × (changed ≡ true → (f : Fault) × (f .column ≡ c) × (u ≡ mend f t) × Between f (getD t i []) (getD t j []))
+
+-- so many rows of 16 cells, all 0
+abbrev pub blank : ℕ → List Row
+blank zero = []
+blank (suc k) = zero-row 16 ∷ blank k
+
+-- the lent rows are as they were, or the first k have been worked in and are all 0
+abbrev pub Rows-left : ℕ → List Row → List Row → Type 0
+Rows-left k t u = (u ≡ t) ⊎ (u ≡ blank k ++ drop k t)

@@ -16,7 +16,7 @@ ghost use Rattle.schema.specs.Chase.{first-cell, put-low, mend, tableau};
 ghost use Rattle.schema.specs.Deciding.{Decides};
 ghost use Rattle.schema.specs.Design.{Loses-nothing};
 ghost use Rattle.schema.specs.Given.{given-parts};
-ghost use Rattle.schema.specs.Sweeps.{Sweep, Pair-quiet, Row-quiet, Rule-quiet, All-quiet, Chased, Merged, fault};
+ghost use Rattle.schema.specs.Sweeps.{Sweep, Pair-quiet, Row-quiet, Rule-quiet, All-quiet, Chased, Merged, fault, blank};
 use crate::given_design::GivenDesign;
 use columns::Column;
 use columns::ColumnSet;
@@ -181,14 +181,25 @@ fn has_zero_row(rows: &[[u64; 16]], width: Width) -> bool
     false
 }
 
-// Whether a row that looks in each part like a row of a table is a row of that table. The rows are worked in.
+fn clear(rows: &mut [[u64; 16]])
+    ensures { λ _. ⌜ now (rows .exit) ≡ blank (length (now (rows .entry))) ⌝ }
+{
+    for i in 0..rows.len() {
+        rows[i] = [0; 16];
+    }
+}
+
+// Whether a row that looks in each part like a row of a table is a row of that table. The rows are worked in, and left all 0.
 pub(crate) fn lossless(rows: &mut [[u64; 16]], rules: &RuleSet, design: GivenDesign) -> bool
     requires { ⌜ length (now rows) ≡ length (given-parts design) ⌝ }
     requires { ⌜ 0 < length (now rows) ⌝ }
     requires { ⌜ now rules .width .columns ≡ design .width .columns ⌝ }
-    ensures { λ r. ⌜ Decides (Loses-nothing (now (rules .entry) .width .columns) (deps (rules-of (now (rules .entry)))) (given-parts (design .entry))) r ⌝ }
+    ensures decides { λ r. ⌜ Decides (Loses-nothing (now (rules .entry) .width .columns) (deps (rules-of (now (rules .entry)))) (given-parts (design .entry))) r ⌝ }
+    ensures cleared { λ _. ⌜ now (rows .exit) ≡ blank (length (now (rows .entry))) ⌝ }
 {
     lay_out(rows, design);
     chase(rows, rules.rules());
-    has_zero_row(rows, rules.width())
+    let nothing_lost = has_zero_row(rows, rules.width());
+    clear(rows);
+    nothing_lost
 }

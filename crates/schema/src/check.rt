@@ -1,13 +1,12 @@
 // Whether somebody else's design is one: the rules are read, and then the five conditions are tested in their order.
 ghost use mathlib.Core.Path.{_≡_};
-ghost use Prim.Native.Nat.{_≤_};
-ghost use lib.ListN.{length, drop};
+ghost use lib.ListN.{length};
 ghost use Rattle.std.specs.declared.result.Result.the-variants.{Ok};
-ghost use Rattle.dependencies.specs.Layout.{columns-of};
 ghost use Rattle.dependencies.specs.Reads.{rules-of};
 ghost use Rattle.dependencies.specs.Rules.{deps};
 ghost use Rattle.schema.specs.Check.{Judged, Checked, Accepted, parts-given};
 ghost use Rattle.schema.specs.Given.{given-parts};
+ghost use Rattle.schema.specs.Sweeps.{Rows-left};
 use crate::chase::lossless;
 use crate::given_design::GivenDesign;
 use crate::keeping::keeps_rules;
@@ -36,7 +35,8 @@ pub enum CheckFailure {
 // The parts against the rules, in the order of the conditions.
 fn judge(rules: &RuleSet, design: GivenDesign, tableau: &mut [[u64; 16]]) -> Result<(), CheckFailure>
     requires { ⌜ now rules .width ≡ design .width ⌝ }
-    ensures { λ r. ⌜ Judged (now (rules .entry) .width .columns) (deps (rules-of (now (rules .entry)))) (given-parts (design .entry)) (length (now (tableau .entry))) r ⌝ }
+    ensures rows { λ _. ⌜ Rows-left (length (given-parts (design .entry))) (now (tableau .entry)) (now (tableau .exit)) ⌝ }
+    ensures told { λ r. ⌜ Judged (now (rules .entry) .width .columns) (deps (rules-of (now (rules .entry)))) (given-parts (design .entry)) (length (now (tableau .entry))) r ⌝ }
 {
     if !covers(design) {
         return Err(CheckFailure::Refused(Refusal::NotADesign(Condition::Covers)));
@@ -60,10 +60,12 @@ fn judge(rules: &RuleSet, design: GivenDesign, tableau: &mut [[u64; 16]]) -> Res
     Ok(())
 }
 
-// Whether lent numbers are a design for lent rules. The tableau is worked in: it needs a row a part, and 12,870 rows suffice for any
-// design, since no more sets of 16 columns lie outside each other.
+// Whether lent numbers are a design for lent rules: yes exactly if they are, or the first refusal that applies. The tableau is
+// worked in: it needs a row a part, and 12,870 rows suffice for any design, since no more sets of 16 columns lie outside each other.
 pub fn check_design(rules: &[u64], design: &[u64], tableau: &mut [[u64; 16]]) -> Result<(), CheckFailure>
-    ensures { λ r. ⌜ Checked (now (rules .entry)) (now (design .entry)) (length (now (tableau .entry))) r ⌝ }
+    ensures told { λ r. ⌜ Checked (now (rules .entry)) (now (design .entry)) (length (now (tableau .entry))) r ⌝ }
+    ensures accepts { λ r. ⌜ (Accepted (now (rules .entry)) (now (design .entry)) (length (now (tableau .entry))) → r ≡ Ok tt) ⌝ }
+    ensures rows { λ _. ⌜ Rows-left (length (parts-given (now (rules .entry)) (now (design .entry)))) (now (tableau .entry)) (now (tableau .exit)) ⌝ }
 {
     let set = match read_rules(rules) {
         Ok(set) => set,

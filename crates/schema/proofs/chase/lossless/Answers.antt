@@ -14,7 +14,7 @@ use Rattle.dependencies.specs.declared.rules.Rule.{Rule}
 use Rattle.dependencies.proofs.Smalls.{Small}
 use Rattle.schema.specs.Chase.{tableau}
 use Rattle.schema.specs.Given.{given-parts}
-use Rattle.schema.specs.Sweeps.{Chased, All-quiet}
+use Rattle.schema.specs.Sweeps.{Chased, All-quiet, blank}
 use Rattle.schema.proofs.GivenSmall.{rules-small}
 use Rattle.schema.proofs.Tableaux.{chased-decides}
 use Rattle.schema.proofs.chase.lossless.Needs as need
@@ -30,5 +30,6 @@ returns c =
     let steps : Chased ds (tableau 16 0 ps) u
     = subst (λ (v : List Row). Chased ds v u) (c .lay-out .ensures) (subst (λ (v : List Dep). Chased v (c .lay-out .last .rows) u) same (c .chase .ensures .0)) in
     let quiet : All-quiet ds u = subst (λ (v : List Dep). All-quiet v u) same (c .chase .ensures .1) in
-    chased-decides n 16 ds ps u (set .width .narrow) (rules-small set) (omega (arith, c .pre .0, c .pre .1)) steps quiet (c .has-zero-row .result)
-    (c .has-zero-row .ensures ∙ ap (λ (w : Width). any u (λ x. agree (columns 0 (w .columns)) (zero-row 16) x)) (c .width .ensures))
+    let decides = chased-decides n 16 ds ps u (set .width .narrow) (rules-small set) (omega (arith, c .pre .0, c .pre .1)) steps quiet (c .has-zero-row-nothing-lost .result)
+    (c .has-zero-row-nothing-lost .ensures ∙ ap (λ (w : Width). any u (λ x. agree (columns 0 (w .columns)) (zero-row 16) x)) (c .width .ensures)) in
+    record { decides = decides; cleared = c .clear .ensures ∙ ap blank (c .chase .kept .rows ∙ c .lay-out .kept .rows) }
