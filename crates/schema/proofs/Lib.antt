@@ -8,7 +8,6 @@ pub mod Faults
 pub mod Looks
 pub mod Lossless
 pub mod Mending
-pub mod Stages
 pub mod Synthesis
 pub mod ThirdDecided
 pub mod ThirdForms

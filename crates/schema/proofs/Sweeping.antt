@@ -202,8 +202,8 @@ module _ (t u v : List Row) (i j : ℕ) (right before todo : Cols) (c : ℕ) whe
             let is-fault = between-fault d u i j f li lj (z .1) there (w .3) in (
               chased-then (d ∷ []) t u v (z .0) (f ∷ [], (is-fault, tt), sym (w .2)),
               subst (λ x. agree left (getD x i []) (getD x j []) ≡ true) (sym (w .2))
-              (subst (λ x. agree left x (getD (mend f u) j []) ≡ true) (sym (mend-at f u i))
-              (subst (λ x. agree left (mended f (getD u i [])) x ≡ true) (sym (mend-at f u j)) (agree-after f left (getD u i []) (getD u j []) high (z .1)))),
+                  (subst (λ x. agree left x (getD (mend f u) j []) ≡ true) (sym (mend-at f u i))
+                  (subst (λ x. agree left (mended f (getD u i [])) x ≡ true) (sym (mend-at f u j)) (agree-after f left (getD u i []) (getD u j []) high (z .1)))),
             );
         moved = λ e.
             let y : total v ≡ total (mend f u) = ap total (w .2) in

@@ -75,9 +75,23 @@ fn merge_at(rows: &mut [[u64; 16]], c: Column, one: usize, two: usize) -> bool
         return false;
     }
     if a < b {
-        lower(rows, Merge { column: c, low: a, high: b });
+        lower(
+            rows,
+            Merge {
+                column: c,
+                low: a,
+                high: b,
+            },
+        );
     } else {
-        lower(rows, Merge { column: c, low: b, high: a });
+        lower(
+            rows,
+            Merge {
+                column: c,
+                low: b,
+                high: a,
+            },
+        );
     }
     true
 }

@@ -67,7 +67,11 @@ fn joined(c: Column, without: Found, with: Found) -> Found
     ensures { λ r. ⌜ Joins (c .index) without with r ⌝ }
 {
     let both = without.prime.union(with.prime);
-    let prime = if without.superkeys == with.superkeys { both } else { both.with(c) };
+    let prime = if without.superkeys == with.superkeys {
+        both
+    } else {
+        both.with(c)
+    };
     let loose = without.loose.union(with.loose);
     Found {
         superkeys: without.superkeys + with.superkeys,

@@ -104,13 +104,16 @@ returns-then-not-third-forms c =
     let room = enough (c .args .design) (length (c .args .tableau .now)) (c .if-tableau-parts .left) in
     let same : deps (c .rules .result .now) ≡ ds = ap deps (c .rules .ensures) in
     let again : deps (c .rules-2 .result .now) ≡ ds = ap deps (c .rules-2 .ensures) in
-    let kept = subst (λ (v : List Dep). Keeps-rules v ps) same (c .if-not-keeps-rules .ensures tt) in record { rows = inr (cleared (c .args .design) (c .args .tableau .now) (c .lossless .last .rows) (c .if-tableau-parts .left) (c .lossless .ensures .cleared)); told = (
-      ThirdForm,
-      refl,
-      missed-five n ds ps one two (c .if-not-lossless .ensures tt .decides) kept
-      (λ t. c .if-not-third-forms .ensures tt (λ p h. subst (λ (v : List Dep). Third-form v (p .cols)) (sym again) (t p h))),
-      λ l. room,
-    ) }
+    let kept = subst (λ (v : List Dep). Keeps-rules v ps) same (c .if-not-keeps-rules .ensures tt) in record {
+      rows = inr (cleared (c .args .design) (c .args .tableau .now) (c .lossless .last .rows) (c .if-tableau-parts .left) (c .lossless .ensures .cleared));
+      told = (
+        ThirdForm,
+        refl,
+        missed-five n ds ps one two (c .if-not-lossless .ensures tt .decides) kept
+            (λ t. c .if-not-third-forms .ensures tt (λ p h. subst (λ (v : List Dep). Third-form v (p .cols)) (sym again) (t p h))),
+        λ l. room,
+      );
+    }
 
 pub returns : need.returns
 returns c =
@@ -122,8 +125,11 @@ returns c =
     let room = enough (c .args .design) (length (c .args .tableau .now)) (c .if-tableau-parts .left) in
     let same : deps (c .rules .result .now) ≡ ds = ap deps (c .rules .ensures) in
     let again : deps (c .rules-2 .result .now) ≡ ds = ap deps (c .rules-2 .ensures) in
-    let kept = subst (λ (v : List Dep). Keeps-rules v ps) same (c .if-not-keeps-rules .ensures tt) in record { rows = inr (cleared (c .args .design) (c .args .tableau .now) (c .lossless .last .rows) (c .if-tableau-parts .left) (c .lossless .ensures .cleared)); told = (
-      meets-all n ds ps one two (c .if-not-lossless .ensures tt .decides) kept
-      (λ p h. subst (λ (v : List Dep). Third-form v (p .cols)) again (c .if-not-third-forms .ensures tt p h)),
-      room,
-    ) }
+    let kept = subst (λ (v : List Dep). Keeps-rules v ps) same (c .if-not-keeps-rules .ensures tt) in record {
+      rows = inr (cleared (c .args .design) (c .args .tableau .now) (c .lossless .last .rows) (c .if-tableau-parts .left) (c .lossless .ensures .cleared));
+      told = (
+        meets-all n ds ps one two (c .if-not-lossless .ensures tt .decides) kept
+            (λ p h. subst (λ (v : List Dep). Third-form v (p .cols)) again (c .if-not-third-forms .ensures tt p h)),
+        room,
+      );
+    }

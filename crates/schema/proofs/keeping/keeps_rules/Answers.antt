@@ -45,9 +45,9 @@ module _ (ds : List Dep) (ps : List Part) where
       let a = and-parts (follow? (all-rules ps) ds) (follow? ds (all-rules ps) && own? ps) (keeps-from ds ps k) in
       let b = and-parts (follow? ds (all-rules ps)) (own? ps) (a .1) in (
         every-from ps stand (λ p h.
-        every-from (p .rules) (stands? ds (p .cols)) (λ d i.
-        and-from (lies p d) (fixed d) (every-at (p .rules) (lies p) (every-at ps (λ q. every (q .rules) (lies q)) (b .1) p h) d i)
-        (every-at (all-rules ps) fixed (b .0) d (part-has-rule ps p d h i)))),
+            every-from (p .rules) (stands? ds (p .cols)) (λ d i.
+            and-from (lies p d) (fixed d) (every-at (p .rules) (lies p) (every-at ps (λ q. every (q .rules) (lies q)) (b .1) p h) d i)
+            (every-at (all-rules ps) fixed (b .0) d (part-has-rule ps p d h i)))),
         a .0,
       )
 

@@ -30,8 +30,11 @@ ghost-result-2 c =
     let g = c .args .self in
     let xs = g .numbers .now in (
       subst (λ (v : List ℕ). 2 * getD xs 1 0 ≤ length v) (sym (c .behind-numbers .ensures)) (part-whole (g .count) xs (c .if-self-eq0 .left) (g .whole) .sets),
-      (subst (λ (v : List ℕ). sets-fit (g .width .columns) (2 * getD xs 1 0) v ≡ true) (sym (c .behind-numbers .ensures))
-      (part-fits (g .width .columns) (g .count) xs (c .if-self-eq0 .left) (g .fits) .rules-fit), tt),
+      (
+        subst (λ (v : List ℕ). sets-fit (g .width .columns) (2 * getD xs 1 0) v ≡ true) (sym (c .behind-numbers .ensures))
+            (part-fits (g .width .columns) (g .count) xs (c .if-self-eq0 .left) (g .fits) .rules-fit),
+        tt,
+      ),
     )
 
 pub returns : need.returns

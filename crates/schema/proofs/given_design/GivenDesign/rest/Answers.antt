@@ -39,8 +39,11 @@ ghost-result c =
     let g = c .args .self in
     let xs = g .numbers .now in (
       subst (λ (v : List ℕ). extent (g .count - 1) v ≤ length v) (sym (c .behind-numbers .ensures)) (part-whole (g .count) xs (c .if-self-eq0 .left) (g .whole) .behind),
-      (subst (λ (v : List ℕ). parts-fit (g .width .columns) (g .count - 1) v ≡ true) (sym (c .behind-numbers .ensures))
-      (part-fits (g .width .columns) (g .count) xs (c .if-self-eq0 .left) (g .fits) .rest-fits), tt),
+      (
+        subst (λ (v : List ℕ). parts-fit (g .width .columns) (g .count - 1) v ≡ true) (sym (c .behind-numbers .ensures))
+            (part-fits (g .width .columns) (g .count) xs (c .if-self-eq0 .left) (g .fits) .rest-fits),
+        tt,
+      ),
     )
 
 pub returns : need.returns

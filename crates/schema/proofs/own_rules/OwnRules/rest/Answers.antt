@@ -20,8 +20,11 @@ ghost-result c =
     let o = c .args .self in
     let xs = o .numbers .now in (
       subst (λ (v : List ℕ). 2 * (o .count - 1) ≤ length v) (sym (c .behind-numbers .ensures)) (omega (arith, length-drop 2 xs, o .whole)),
-      (subst (λ (v : List ℕ). sets-fit (o .width .columns) (2 * (o .count - 1)) v ≡ true) (sym (c .behind-numbers .ensures))
-      (rule-fits (o .width .columns) (o .count) xs (c .if-self-eq0 .left) (o .fits) .2), tt),
+      (
+        subst (λ (v : List ℕ). sets-fit (o .width .columns) (2 * (o .count - 1)) v ≡ true) (sym (c .behind-numbers .ensures))
+            (rule-fits (o .width .columns) (o .count) xs (c .if-self-eq0 .left) (o .fits) .2),
+        tt,
+      ),
     )
 
 pub returns : need.returns
