@@ -28,7 +28,7 @@ use Rattle.schema.proofs.ChaseSound.{chase-sound}
 abbrev pub Zeros : List Part → List Row → Type 0
 Zeros ps t = (p : Part) → In p ps → (x : Row) × In x t × ((c : ℕ) → In c (p .cols) → getD x c 0 ≡ 0)
 
-start-zeros : (n i : ℕ) (ps : List Part) → Zeros ps (tableau n i ps)
+pub start-zeros : (n i : ℕ) (ps : List Part) → Zeros ps (tableau n i ps)
 start-zeros n i [] p h = absurd h
 start-zeros n i (q ∷ ps) p h =
     elim h [

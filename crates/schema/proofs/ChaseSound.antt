@@ -68,7 +68,7 @@ choose t r (p ∷ ps) f =
     let rest = choose t r ps (λ q h. f q (inr h)) in
     (u .0 ∷ rest .0, (u .1, u .2, rest .1))
 
-start-reads : (n : ℕ) (t : List Row) (r : Row) (v : ℕ → ℕ → ℕ) → ((c : ℕ) → v c 0 ≡ getD r c 0) → (i : ℕ) (ps : List Part) (us : List Row) → Chosen t r ps us
+pub start-reads : (n : ℕ) (t : List Row) (r : Row) (v : ℕ → ℕ → ℕ) → ((c : ℕ) → v c 0 ≡ getD r c 0) → (i : ℕ) (ps : List Part) (us : List Row) → Chosen t r ps us
     → ((c j : ℕ) → v c (suc (i + j)) ≡ getD (getD us j []) c 0) → Reads n t v (tableau n i ps)
 start-reads n t r v nought i [] us ch own x h = absurd h
 start-reads n t r v nought i (p ∷ ps) [] ch own x h = absurd ch

@@ -64,7 +64,7 @@ fault-why ds t f h =
     })
     (λ e k. absurd k) (c .2)
 
-fault-there : (ds : List Dep) (t : List Row) (d : Dep) (r s : Row) (c : ℕ) → In d ds → In r t → In s t → agree (d .left) r s ≡ true → In c (d .right)
+pub fault-there : (ds : List Dep) (t : List Row) (d : Dep) (r s : Row) (c : ℕ) → In d ds → In r t → In s t → agree (d .left) r s ≡ true → In c (d .right)
     → getD r c 0 < getD s c 0 → In (record { column = c; low = getD r c 0; high = getD s c 0 }) (faults ds t)
 fault-there ds t d r s c hd hr hs e i l =
     let f : Fault = record { column = c; low = getD r c 0; high = getD s c 0 } in

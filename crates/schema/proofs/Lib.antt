@@ -8,7 +8,6 @@ pub mod Faults
 pub mod Looks
 pub mod Lossless
 pub mod Mending
-pub mod Stages
 pub mod Synthesis
 pub mod ThirdDecided
 pub mod ThirdForms
@@ -26,3 +25,14 @@ pub mod Telling
 pub mod PartText
 pub mod PlanText
 pub mod PartEnds
+pub mod GivenWalk
+pub mod Sweeping
+pub mod Tableaux
+pub mod GivenSmall
+pub mod GivenLoops
+pub mod Wholes
+pub mod Covered
+pub mod OwnRounds
+pub mod SuperkeyCounts
+pub mod Judging
+pub mod Checking

@@ -1,7 +1,7 @@
 -- Third form is decided by trying all subsets. Assumes nothing.
 use mathlib.Core.Path.{_≡_, refl, sym, subst, _∙_}
 use mathlib.Core.Logic.{inl, inr}
-use mathlib.Core.Bool.{Bool, true, _&&_, _||_, not}
+use mathlib.Core.Bool.{Bool, true, false, _&&_, _||_, not}
 use mathlib.Core.List.{List, [], _∷_}
 use Prim.Native.Nat.{ℕ}
 use Rattle.std.proofs.shelf.Tests.{true≢false, and-parts, and-from, or-cases, or-left, or-right, not-true, not-from-false, cases-bool}
@@ -13,7 +13,7 @@ use Rattle.columns.specs.Every.{every, subsets}
 use Rattle.dependencies.specs.Closure.{fixes?}
 use Rattle.schema.specs.Judge.{in-key?, third-form?}
 use Rattle.schema.specs.Decided.{Third-form-decided}
-use Rattle.columns.specs.Members.{In}
+use Rattle.columns.specs.Members.{In, Sub}
 use Rattle.columns.proofs.Columns.{has-in, in-has, has-not-in, in-or-not, all-in-sub, sub-all-in, in-less, less-in}
 use Rattle.columns.proofs.Shrink.{keep-sub, keep-good}
 use Rattle.dependencies.proofs.Fixing.{fixes-all, fixes-monotone, implied-fixes, fixes-implied}
@@ -22,23 +22,27 @@ use Rattle.keys.proofs.Keys.{reduced-key}
 use Rattle.columns.proofs.Everyone.{every-at, every-from, any-some, any-from}
 use Rattle.columns.proofs.Subsets.{subset-sub, subset-same}
 
-key-column : (ds : List Dep) (p : Cols) (a : ℕ) → in-key? ds p a ≡ true → (k : Cols) × Key ds p k × (has k a ≡ true)
-key-column ds p a h =
-    let s = any-some (subsets p) (λ x. fixes? ds x p && not (fixes? ds (less x a) p)) h in
-    let x = s .0 in
-    let w = and-parts (fixes? ds x p) (not (fixes? ds (less x a) p)) (s .2) in
+-- a superkey that is none without a column has a key with that column
+pub key-with : (ds : List Dep) (p x : Cols) (a : ℕ) → Sub x p → fixes? ds x p ≡ true → fixes? ds (less x a) p ≡ false → (k : Cols) × Key ds p k × (has k a ≡ true)
+key-with ds p x a inside h l =
     let k = reduced ds p x in (
       k,
-      reduced-key ds p x (subset-sub p x (s .1)) (w .0),
+      reduced-key ds p x inside h,
       elim (in-or-not k a) [
         | inl i ↦ in-has k a i
         | inr i ↦
             absurd (true≢false
             (sym (fixes-monotone ds p k (less x a)
-            (λ c j. less-in x a c (keep-sub (fixes-all ds p) [] x c j) (λ e. i (subst (λ v. In v k) e j))) (keep-good (fixes-all ds p) [] x (w .0)))
-            ∙ not-true (fixes? ds (less x a) p) (w .1)))
+            (λ c j. less-in x a c (keep-sub (fixes-all ds p) [] x c j) (λ e. i (subst (λ v. In v k) e j))) (keep-good (fixes-all ds p) [] x h))
+            ∙ l))
       ],
     )
+
+key-column : (ds : List Dep) (p : Cols) (a : ℕ) → in-key? ds p a ≡ true → (k : Cols) × Key ds p k × (has k a ≡ true)
+key-column ds p a h =
+    let s = any-some (subsets p) (λ x. fixes? ds x p && not (fixes? ds (less x a) p)) h in
+    let w = and-parts (fixes? ds (s .0) p) (not (fixes? ds (less (s .0) a) p)) (s .2) in
+    key-with ds p (s .0) a (subset-sub p (s .0) (s .1)) (w .0) (not-true (fixes? ds (less (s .0) a) p) (w .1))
 
 column-key : (ds : List Dep) (p : Cols) (a : ℕ) (k : Cols) → Key ds p k → has k a ≡ true → in-key? ds p a ≡ true
 column-key ds p a k key h =

@@ -21,20 +21,20 @@ refuted : {C : Type 0} (b : Bool) → (C → b ≡ true) → b ≡ false → C �
 refuted b f e c = true≢false (sym (f c) ∙ e)
 
 module _ (n : ℕ) (ds : List Dep) (ps : List Part) where
-  abbrev Before : ℕ → Type 0
+  abbrev pub Before : ℕ → Type 0
   Before k = (j : ℕ) → 0 < j → j < k → Condition n ds ps j
 
-  before-one : Before 1
+  pub before-one : Before 1
   before-one j a b = absurd (omega arith)
 
-  and-next : (k : ℕ) → Before k → Condition n ds ps k → Before (suc k)
+  pub and-next : (k : ℕ) → Before k → Condition n ds ps k → Before (suc k)
   and-next k f c j a b =
       elim (cases-bool (eqb j k)) [
         | inl e ↦ subst (Condition n ds ps) (sym (eqb-true j k e)) c
         | inr e ↦ f j a (let x = eqb-false j k e in omega arith)
       ]
 
-  design-from : Before 6 → Design n ds ps
+  pub design-from : Before 6 → Design n ds ps
   unfolding Condition
   design-from f =
       let a = f 1 (omega arith) (omega arith) in
@@ -48,7 +48,7 @@ module _ (n : ℕ) (ds : List Dep) (ps : List Part) where
         none-inside = f 2 (omega arith) (omega arith);
       }
 
-  design-meets : Design n ds ps → (k : ℕ) → 0 < k → k ≤ 5 → Condition n ds ps k
+  pub design-meets : Design n ds ps → (k : ℕ) → 0 < k → k ≤ 5 → Condition n ds ps k
   unfolding Condition
   design-meets d zero a b = absurd (omega arith)
   design-meets d (suc zero) a b = (d .some, d .within, d .covers)

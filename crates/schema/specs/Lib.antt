@@ -11,3 +11,9 @@ pub mod Sets
 pub mod Theorems
 pub mod Writing
 pub mod Shown
+pub mod Given
+pub mod Sweeps
+pub mod Deciding
+pub mod Kept
+pub mod Superkeys
+pub mod Check
