@@ -1,7 +1,17 @@
 pub mod Agree
+pub mod Breaking
+pub mod Counted
 pub mod Counts
 pub mod Days
+pub mod Decoded
+pub mod Formed
 pub mod Keeping
+pub mod Masking
 pub mod Obeying
+pub mod Placed
+pub mod Spaces
 pub mod Together
+pub mod Turns
 pub mod Undoing
+pub mod Walks
+pub mod Written

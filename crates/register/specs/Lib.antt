@@ -1,2 +1,4 @@
+pub mod Answers
 pub mod Day
+pub mod Store
 pub mod Theorems
