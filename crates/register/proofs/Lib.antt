@@ -9,6 +9,7 @@ pub mod Keeping
 pub mod Masking
 pub mod Obeying
 pub mod Placed
+pub mod Shares
 pub mod Spaces
 pub mod Together
 pub mod Turns

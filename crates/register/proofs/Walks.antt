@@ -36,12 +36,12 @@ share-small (suc k) s g l h = omega (arith, suc-row k s)
 abbrev pub part-in : ℕ → List ℕ → Part
 part-in n xs = record { cols = set-in 0 n (getD xs 0 0); rules = rules-in n (getD xs 1 0) (drop 2 xs) }
 
-parts-more : (n m : ℕ) (xs : List ℕ) → 0 < m → parts-in n m xs ≡ part-in n xs ∷ parts-in n (m - 1) (drop (2 + 2 * getD xs 1 0) xs)
+pub parts-more : (n m : ℕ) (xs : List ℕ) → 0 < m → parts-in n m xs ≡ part-in n xs ∷ parts-in n (m - 1) (drop (2 + 2 * getD xs 1 0) xs)
 unfolding parts-in
 parts-more n zero xs l = absurd (omega arith)
 parts-more n (suc m) xs l = let z : m ≡ suc m - 1 = omega arith in ap (λ (k : ℕ). part-in n xs ∷ parts-in n k (drop (2 + 2 * getD xs 1 0) xs)) z
 
-cells-more : (n room m : ℕ) (xs : List ℕ) → 0 < m
+pub cells-more : (n room m : ℕ) (xs : List ℕ) → 0 < m
     → all-held n room m xs ≡ held-in n room (take (room * (n + 1)) xs) ∷ all-held n room (m - 1) (drop (room * (n + 1)) xs)
 unfolding all-held
 cells-more n room zero xs l = absurd (omega arith)

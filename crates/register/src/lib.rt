@@ -1,6 +1,7 @@
 // A register that is kept in the parts of a design, in lent memory: rows come in, go, and are asked for.
 // A part holds what the rows look like in its columns, each look once, with how many rows look so. Nothing here allocates.
 mod asking;
+mod changing;
 mod counting;
 mod design_parts;
 mod looks;
