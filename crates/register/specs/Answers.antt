@@ -1,10 +1,10 @@
 -- What is told of a row that comes, goes or is asked for, and what lent memory holds afterwards.
 use mathlib.Core.Path.{_≡_}
-use mathlib.Core.Bool.{Bool, true, false, not}
+use mathlib.Core.Bool.{Bool, true, false, _&&_, not}
 use mathlib.Core.List.{List, [], _∷_}
 use Prim.Native.Nat.{ℕ, _+_, _*_}
 use lib.Dec.{eqb, leb}
-use lib.ListN.{length, getD, drop}
+use lib.ListN.{length, getD, drop, replicate}
 use Rattle.std.specs.declared.option.Option.{Option}
 use Rattle.std.specs.declared.option.Option.the-variants.{Some, None}
 use Rattle.std.specs.declared.result.Result.{Result}
@@ -74,12 +74,20 @@ put-told n room ps hs r =
 abbrev pub take-told : ℕ → List Part → List (List Held) → Row → Told
 take-told n ps hs r = cells-told n r (pick (all-hold ps hs r) done (refused 10 0))
 
+-- asked for
+abbrev pub asked-told : ℕ → Row → Told
+asked-told n r = cells-told n r done
+
 -- a register is opened for rules that can be read and a design that can be read
 abbrev pub design-told : ℕ → List ℕ → Told
 design-told n d = pick (readable n d) done (refused 6 1)
 
 abbrev pub opening : (rules design : List ℕ) → Told
 opening rules d = or-else (reading rules) (design-told (columns-of rules) d)
+
+-- a request to a register that was not opened is refused as the opening would be
+abbrev pub opened-told : ℕ → List ℕ → Told
+opened-told n d = pick (leb 1 n && leb n 16) (design-told n d) (refused 6 1)
 
 -- the cells after an answer: where it is done, the parts hold this, nothing but 0 stands behind what they hold if it was so before,
 -- and past the parts the cells are as they were; else no cell has changed
@@ -91,3 +99,13 @@ pub record Now-holds (n : ℕ) (d g g₁ : List ℕ) (hs : List (List Held)) : T
 abbrev pub After : {A : Type 0} → ℕ → (d g g₁ : List ℕ) → List (List Held) → Result A Refusal → Type 0
 After n d g g₁ hs (Ok a) = Now-holds n d g g₁ hs
 After n d g g₁ hs (Err e) = g₁ ≡ g
+
+-- the answer to whether a row is present
+abbrev pub Asks : ℕ → List Part → List (List Held) → Row → Result Bool Refusal → Type 0
+Asks n ps hs r (Ok b) = b ≡ all-hold ps hs r
+Asks n ps hs r (Err e) = Unit {0}
+
+-- after an opening the register has the table's columns and all cells are 0; a refusal leaves both
+abbrev pub Opened : {A : Type 0} → (n was columns : ℕ) → (g g₁ : List ℕ) → Result A Refusal → Type 0
+Opened n was columns g g₁ (Ok a) = (columns ≡ n) × (g₁ ≡ replicate (length g) 0)
+Opened n was columns g g₁ (Err e) = (columns ≡ was) × (g₁ ≡ g)

@@ -3,16 +3,19 @@
 mod asking;
 mod changing;
 mod counting;
+mod deeds;
 mod design_parts;
 mod looks;
 mod own_part;
 mod part_rows;
 mod reading;
+mod register;
 mod rows_held;
 mod theorems;
 mod walking;
 mod whole_row;
 
+pub use register::Register;
 pub use theorems::day_undone;
 pub use theorems::parts_as_whole;
 pub use theorems::parts_never_more;
