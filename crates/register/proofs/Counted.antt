@@ -83,7 +83,7 @@ length-less hs i l =
     let b = length-drop (suc i) hs in
     length-append (take i hs) (drop (suc i) hs) ∙ omega arith
 
-zeros : (k j : ℕ) → getD (replicate {A = ℕ} k 0) j 0 ≡ 0
+pub zeros : (k j : ℕ) → getD (replicate {A = ℕ} k 0) j 0 ≡ 0
 zeros k j = elim (cases-lt j k) [ inl l ↦ getD-replicate k j 0 0 l | inr l ↦ getD-past (replicate k 0) j 0 (simp length-replicate l) ]
 
 -- cells from a place on

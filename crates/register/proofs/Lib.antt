@@ -2,6 +2,7 @@ pub mod Agree
 pub mod Breaking
 pub mod Counted
 pub mod Counts
+pub mod Daily
 pub mod Days
 pub mod Decoded
 pub mod Formed
@@ -15,4 +16,5 @@ pub mod Together
 pub mod Turns
 pub mod Undoing
 pub mod Walks
+pub mod Whole
 pub mod Written

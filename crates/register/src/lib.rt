@@ -3,6 +3,7 @@
 mod asking;
 mod changing;
 mod counting;
+mod day;
 mod deeds;
 mod design_parts;
 mod looks;
