@@ -20,3 +20,6 @@ pub use register::Register;
 pub use theorems::day_undone;
 pub use theorems::parts_as_whole;
 pub use theorems::parts_never_more;
+
+#[cfg(test)]
+mod tests;
