@@ -1,0 +1,5 @@
+pub mod Answers
+pub mod Day
+pub mod Deeds
+pub mod Store
+pub mod Theorems

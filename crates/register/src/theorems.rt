@@ -1,0 +1,18 @@
+// The theorems about a register in parts, each carried by a function whose contract is the statement.
+ghost use Rattle.register.specs.Theorems.{Parts-as-whole, Never-more, Undone};
+
+// The parts, each asking its own rules alone, take and refuse exactly the deeds that one table with all rules does,
+// and at the end a row is in the one table exactly if every part holds what it looks like there.
+pub fn parts_as_whole()
+    ensures { λ _. ⌜ Parts-as-whole ⌝ }
+{}
+
+// No part ever holds more rows than the register.
+pub fn parts_never_more()
+    ensures { λ _. ⌜ Never-more ⌝ }
+{}
+
+// A day of deeds that were all taken, undone deed by deed, the last first, leaves the parts bare.
+pub fn day_undone()
+    ensures { λ _. ⌜ Undone ⌝ }
+{}
