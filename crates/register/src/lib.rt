@@ -18,6 +18,7 @@ mod whole_row;
 
 pub use register::Register;
 pub use theorems::day_undone;
+pub use theorems::organs_day_in_one_table;
 pub use theorems::parts_as_whole;
 pub use theorems::parts_never_more;
 

@@ -20,6 +20,32 @@ fn told(answer: Result<(), Refusal>) -> u64 {
     }
 }
 
+fn open(register: &mut Register) -> u64 {
+    told(register.open(&RULES))
+}
+
+fn put(register: &mut Register, row: &[u64]) -> u64 {
+    told(register.insert(row))
+}
+
+fn take(register: &mut Register, row: &[u64]) -> u64 {
+    told(register.remove(row))
+}
+
+fn present(register: &Register, row: &[u64]) -> bool {
+    match register.contains(row) {
+        Ok(present) => present,
+        Err(_) => false,
+    }
+}
+
+fn day(register: &mut Register, deeds: &[u64], answers: &mut [u64]) -> usize {
+    match register.keep_day(&RULES, deeds, answers) {
+        Ok(count) => count,
+        Err(_) => 0,
+    }
+}
+
 #[test]
 fn organs_day() -> Result<(), Fail> {
     let mut cells = [9; 65];
@@ -104,11 +130,7 @@ fn organs_day() -> Result<(), Fail> {
         5,
     ];
     let mut register = Register::over(&DESIGN, &mut cells);
-    let count = match register.keep_day(&RULES, &deeds, &mut answers) {
-        Ok(count) => count,
-        Err(_) => 0,
-    };
-    check_eq(count, 11)?;
+    check_eq(day(&mut register, &deeds, &mut answers), 11)?;
     check(
         answers
             == [
@@ -214,9 +236,9 @@ fn organs_day() -> Result<(), Fail> {
 fn no_room_in_a_later_part() -> Result<(), Fail> {
     let mut cells = [9; 21];
     let mut register = Register::over(&DESIGN, &mut cells);
-    check_eq(told(register.open(&RULES)), 0)?;
-    check_eq(told(register.insert(&[10, 1, 100, 7, 50, 3])), 0)?;
-    check_eq(told(register.insert(&[10, 1, 100, 7, 51, 4])), 11002)?;
+    check_eq(open(&mut register), 0)?;
+    check_eq(put(&mut register, &[10, 1, 100, 7, 50, 3]), 0)?;
+    check_eq(put(&mut register, &[10, 1, 100, 7, 51, 4]), 11002)?;
     check(
         cells
             == [
@@ -250,16 +272,12 @@ fn no_room_in_a_later_part() -> Result<(), Fail> {
 fn rows_that_look_alike() -> Result<(), Fail> {
     let mut cells = [9; 42];
     let mut register = Register::over(&DESIGN, &mut cells);
-    check_eq(told(register.open(&RULES)), 0)?;
-    check_eq(told(register.insert(&[10, 1, 100, 7, 50, 3])), 0)?;
-    check_eq(told(register.insert(&[10, 1, 100, 7, 51, 4])), 0)?;
-    check_eq(told(register.remove(&[10, 1, 100, 7, 50, 4])), 10000)?;
-    check_eq(told(register.remove(&[10, 1, 100, 7, 50, 3])), 0)?;
-    let gone = match register.contains(&[10, 1, 100, 7, 50, 3]) {
-        Ok(present) => !present,
-        Err(_) => false,
-    };
-    check(gone)?;
+    check_eq(open(&mut register), 0)?;
+    check_eq(put(&mut register, &[10, 1, 100, 7, 50, 3]), 0)?;
+    check_eq(put(&mut register, &[10, 1, 100, 7, 51, 4]), 0)?;
+    check_eq(take(&mut register, &[10, 1, 100, 7, 50, 4]), 10000)?;
+    check_eq(take(&mut register, &[10, 1, 100, 7, 50, 3]), 0)?;
+    check(!present(&register, &[10, 1, 100, 7, 50, 3]))?;
     check(
         cells
             == [
@@ -313,13 +331,12 @@ fn rows_that_look_alike() -> Result<(), Fail> {
 fn refused_requests() -> Result<(), Fail> {
     let mut cells = [9; 21];
     let mut register = Register::over(&DESIGN, &mut cells);
-    check_eq(told(register.insert(&[10, 1, 100, 7, 50, 3])), 6001)?;
-    check_eq(told(register.open(&[0])), 1000)?;
-    check_eq(told(register.open(&RULES)), 0)?;
-    check_eq(told(register.insert(&[10, 1, 100, 7, 50])), 7005)?;
-    check_eq(told(register.remove(&[])), 7000)?;
+    check_eq(put(&mut register, &[10, 1, 100, 7, 50, 3]), 6001)?;
+    check_eq(open(&mut register), 0)?;
+    check_eq(put(&mut register, &[10, 1, 100, 7, 50]), 7005)?;
+    check_eq(take(&mut register, &[]), 7000)?;
     let mut other = [9; 21];
     let mut cut = Register::over(&DESIGN[0..16], &mut other);
-    check_eq(told(cut.open(&RULES)), 6001)?;
+    check_eq(open(&mut cut), 6001)?;
     check(other == [9; 21])
 }

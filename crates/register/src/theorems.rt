@@ -1,4 +1,5 @@
 // The theorems about a register in parts, each carried by a function whose contract is the statement.
+ghost use Rattle.register.specs.Organs.{Organs-day};
 ghost use Rattle.register.specs.Theorems.{Parts-as-whole, Never-more, Undone};
 
 // The parts, each asking its own rules alone, take and refuse exactly the deeds that one table with all rules does,
@@ -15,4 +16,9 @@ pub fn parts_never_more()
 // A day of deeds that were all taken, undone deed by deed, the last first, leaves the parts bare.
 pub fn day_undone()
     ensures { λ _. ⌜ Undone ⌝ }
+{}
+
+// The organs' day in the one table: what is taken and what is refused.
+pub fn organs_day_in_one_table()
+    ensures { λ _. ⌜ Organs-day ⌝ }
 {}
