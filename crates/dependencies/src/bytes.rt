@@ -3,25 +3,33 @@ ghost use mathlib.Core.Path.{_≡_};
 ghost use lib.ListN.{take};
 ghost use Rattle.dependencies.specs.Bytes.{row-of-bytes};
 ghost use Rattle.dependencies.specs.Reads.{Reads};
-use crate::byte_row::ByteRow;
 use crate::held::RuleSet;
 use crate::input::read_rules;
 use crate::refusals::Refusal;
+use crate::rule_numbers::RuleRow;
+
+impl RuleRow {
+    pub fn numbers(&self) -> &[u64]
+        ensures { λ r. ⌜ now r ≡ take (now (self .entry) .len) (now (self .entry) .numbers) ⌝ }
+    {
+        &self.numbers[0..self.len]
+    }
+}
 
 // The numbers of at most one byte: how many columns there are, if it is there.
-fn start_of(bytes: &[u8]) -> ByteRow
+fn start_of(bytes: &[u8]) -> RuleRow
     ensures { λ r. ⌜ take (r .len) (r .numbers) ≡ take 1 (now (bytes .entry)) ⌝ }
 {
     let mut numbers = [0; 66];
     let [columns, ..] = bytes else {
-        return ByteRow { numbers, len: 0 };
+        return RuleRow { numbers, len: 0 };
     };
     numbers[0] = *columns as u64;
-    ByteRow { numbers, len: 1 }
+    RuleRow { numbers, len: 1 }
 }
 
 // The numbers that the bytes stand for, as far as 32 rules need them.
-fn row_of(bytes: &[u8]) -> ByteRow
+pub fn rule_row(bytes: &[u8]) -> RuleRow
     ensures { λ r. ⌜ take (r .len) (r .numbers) ≡ take 66 (row-of-bytes (now (bytes .entry))) ⌝ }
 {
     if bytes.len() < 2 {
@@ -34,7 +42,7 @@ fn row_of(bytes: &[u8]) -> ByteRow
     for i in 1..end {
         numbers[i + 1] = bytes[2 * i] as u64 + 256 * bytes[2 * i + 1] as u64;
     }
-    ByteRow {
+    RuleRow {
         numbers,
         len: end + 1,
     }
@@ -44,6 +52,6 @@ fn row_of(bytes: &[u8]) -> ByteRow
 pub fn rules_from_bytes(bytes: &[u8]) -> Result<RuleSet, Refusal>
     ensures { λ r. ⌜ Reads (row-of-bytes (now (bytes .entry))) r ⌝ }
 {
-    let row = row_of(bytes);
-    read_rules(&row.numbers[0..row.len])
+    let row = rule_row(bytes);
+    read_rules(row.numbers())
 }

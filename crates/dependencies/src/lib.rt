@@ -1,17 +1,19 @@
 // Rules about the columns of a table, and what follows from them.
 // A rule is a functional dependency: rows that are equal in all its left columns are equal in all its right ones.
+// Rules are read once, from lent numbers or from a file's bytes, and refused by the first number that applies; closures and
 // implications are then asked of them. Nothing here allocates.
-mod byte_row;
 mod bytes;
 mod closing;
 mod held;
 mod implied;
 mod input;
 mod refusals;
+mod rule_numbers;
 mod rules;
 mod text;
 mod theorems;
 
+pub use bytes::rule_row;
 pub use bytes::rules_from_bytes;
 pub use closing::closure;
 pub use held::RuleSet;
@@ -33,6 +35,7 @@ pub use refusals::RefusalDebug;
 pub use refusals::RefusalDisplay;
 pub use refusals::RefusalEq;
 pub use refusals::RefusalPartialEq;
+pub use rule_numbers::RuleRow;
 pub use rules::Rule;
 pub use rules::RuleDebug;
 pub use rules::RuleEq;

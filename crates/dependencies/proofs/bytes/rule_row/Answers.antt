@@ -6,7 +6,7 @@ use lib.ListN.{length, getD, take, set, length-set}
 use Rattle.std.proofs.shelf.Lists.{take-more, take-more-set}
 use Rattle.dependencies.specs.Bytes.{row-of-bytes}
 use Rattle.dependencies.proofs.ByteRows.{row-length, row-start, row-head, row-at, row-end}
-use Rattle.dependencies.proofs.bytes.row_of.Needs as need
+use Rattle.dependencies.proofs.bytes.rule_row.Needs as need
 
 pub returns-then-bytes-lt2 : need.returns-then-bytes-lt2
 returns-then-bytes-lt2 c = c .start-of .ensures ∙ sym (row-start (c .args .bytes .now) (c .if-bytes-lt2 .taken))

@@ -1,9 +1,9 @@
 // The type alone, so that the specs may name it.
 ghost use Prim.Native.Nat.{_≤_};
 
-// The first numbers of a lent row of rules, as many as 32 rules have.
+// The numbers of a lent row of rules, as many as 32 rules have.
 #[derive(Clone, Copy)]
-pub(crate) struct ByteRow {
+pub struct RuleRow {
     pub(crate) numbers: [u64; 66],
     pub(crate) len: usize,
     ghost few: { len ≤ 66 },
