@@ -1,6 +1,5 @@
 -- The branch of all sets inside a target has all its keys.
-use mathlib.Core.Path.{_≡_, refl, sym, subst}
-use mathlib.Core.Bool.{true, false}
+use mathlib.Core.Path.{_≡_, sym, subst}
 use mathlib.Core.List.{List, []}
 use mathlib.Core.Logic.{inr}
 use Rattle.std.specs.Options.{Cases as BySome}

@@ -57,7 +57,9 @@ pub fn write_keys(rules: &[Rule], target: ColumnSet, out: &mut [u64]) -> Result<
     Ok(count as u64)
 }
 
-// The same, asked of lent rules. The set whose keys are asked for is counted behind those of the rules.
+// The same, asked of lent rules. The set whose keys are asked for is counted behind those of the rules. Where these cannot be
+// read or the set names a column that is not there, the row is as it was; where it has no room for the next key, it holds
+// those before it.
 pub fn candidate_keys(lent: &[u64], set: u64, out: &mut [u64]) -> Result<u64, Refusal>
     ensures { λ r. ⌜ Keys-told (now (lent .entry)) set (now (out .entry)) r (now (out .exit)) ⌝ }
 {
