@@ -1,9 +1,8 @@
 -- The branch of all sets inside a target has all its keys.
-use mathlib.Core.Path.{_≡_, refl, sym, subst}
-use mathlib.Core.Bool.{true, false}
+use mathlib.Core.Path.{_≡_, sym, subst}
 use mathlib.Core.List.{List, []}
 use mathlib.Core.Logic.{inr}
-use Rattle.std.specs.Options.{isSome}
+use Rattle.std.specs.Options.{Cases as BySome}
 use Rattle.std.specs.declared.option.Option.{Option}
 use Rattle.std.specs.declared.option.Option.the-variants.{Some, None}
 use Rattle.columns.specs.Cols.{Cols, Rising}
@@ -15,7 +14,7 @@ use Rattle.columns.proofs.SetNumbers.{cols-rising}
 use Rattle.dependencies.specs.Tables.{Dep}
 use Rattle.dependencies.proofs.Fixing.{fixes-all}
 use Rattle.keys.specs.Keys.{Key}
-use Rattle.keys.specs.Walks.{Found, Key-in, First}
+use Rattle.keys.specs.Walks.{Found, Key-in, First, First-key}
 use Rattle.keys.specs.declared.branch.Branch.{Branch}
 use Rattle.keys.proofs.Keys.{key-of, key-of-key}
 
@@ -32,6 +31,8 @@ module _ (ds : List Dep) (b : Branch) (aim : ColumnSet) (aimed : b .target ≡ a
   pub of-entire : (k : Cols) → Key-in ds b k → Key ds (cols aim) k
   of-entire k h = subst (λ (v : ColumnSet). Key ds (cols v) k) aimed (h .key)
 
-  pub some-key : (r : Option ColumnSet) → First ds b r → isSome r ≡ true
-  some-key (Some k) h = refl
-  some-key None h = absurd (h (key-of ds (cols aim)) (in-entire (key-of ds (cols aim)) (keep-rising (fixes-all ds (cols aim)) [] (cols aim) (cols-rising aim)) (key-of-key ds (cols aim))))
+  pub first-entire : (r : Option ColumnSet) → First ds b r → BySome r ⊥ (λ k. First-key ds (cols aim) (cols k))
+  first-entire (Some k) h = record { key = of-entire (cols k) (h .0); first = λ j r q. h .1 j (in-entire j r q) }
+  first-entire None h =
+      let k = key-of ds (cols aim) in
+      h k (in-entire k (keep-rising (fixes-all ds (cols aim)) [] (cols aim) (cols-rising aim)) (key-of-key ds (cols aim)))

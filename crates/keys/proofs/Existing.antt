@@ -1,8 +1,8 @@
 -- The list of all keys exists, apart from any code that writes it.
-use mathlib.Core.Path.{_≡_, refl, sym, ap, subst, _∙_}
-use mathlib.Core.Bool.{Bool, true, false, _||_}
+use mathlib.Core.Path.{_≡_, refl, ap, _∙_}
+use mathlib.Core.Bool.{Bool, true, _||_}
 use mathlib.Core.List.{List, [], _∷_, _++_}
-use mathlib.Core.Logic.{_⊎_, inl, inr}
+use mathlib.Core.Logic.{inl, inr}
 use Prim.Native.Nat.{ℕ, _<_}
 use native.Mathlib.Omega.{arith}
 use Rattle.std.proofs.shelf.Tests.{cases-bool}
@@ -10,7 +10,7 @@ use Rattle.columns.specs.Cols.{Cols, has, all-in, Rising, none, one}
 use Rattle.columns.specs.Members.{In, Sub}
 use Rattle.columns.proofs.Columns.{all-in-sub, sub-all-in}
 use Rattle.columns.proofs.Lists.{has-append}
-use Rattle.columns.proofs.Members.{in-either, in-right}
+use Rattle.columns.proofs.Members.{in-either}
 use Rattle.columns.proofs.Rising.{rising-rest, rising-low, rising-put, has-single}
 use Rattle.dependencies.specs.Tables.{Dep}
 use Rattle.dependencies.specs.Closure.{fixes?}

@@ -1,10 +1,9 @@
 -- Lists of just the sets that are asked for: none, one, and two lists one after the other.
-use mathlib.Core.Path.{_≡_, refl, sym, subst}
+use mathlib.Core.Path.{_≡_, subst}
 use mathlib.Core.Bool.{true}
 use mathlib.Core.List.{List, [], _∷_, _++_}
 use mathlib.Core.Logic.{_⊎_, inl, inr}
 use Rattle.columns.specs.Cols.{Cols, Rising}
-use Rattle.columns.specs.Members.{In}
 use Rattle.columns.specs.Order.{before, no-set, one-set}
 use Rattle.columns.proofs.InOrder.{listed-in, in-listed}
 use Rattle.columns.proofs.Members.{in-left, in-right, in-either}

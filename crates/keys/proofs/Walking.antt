@@ -1,16 +1,15 @@
 -- What each way out of the walk has written.
-use mathlib.Core.Path.{_≡_, refl, sym, ap, subst, _∙_}
-use mathlib.Core.Bool.{true, false}
+use mathlib.Core.Path.{_≡_, sym, subst}
+use mathlib.Core.Bool.{false}
 use mathlib.Core.List.{List, [], _∷_, _++_}
-use Prim.Native.Nat.{ℕ, _+_, _≤_, _<_}
+use Prim.Native.Nat.{ℕ, _+_, _<_}
 use native.Mathlib.Omega.{arith}
-use lib.ListN.{length}
 use Rattle.std.specs.declared.option.Option.{Option}
 use Rattle.std.specs.declared.option.Option.the-variants.{Some, None}
 use Rattle.columns.specs.Cols.{Cols, set-in}
 use Rattle.columns.specs.Members.{In}
 use Rattle.columns.specs.Sets.{cols}
-use Rattle.columns.proofs.Columns.{has-in, in-has, all-in-sub}
+use Rattle.columns.proofs.Columns.{in-has, all-in-sub}
 use Rattle.columns.proofs.SetNumbers.{cols-rising, cols-below}
 use Rattle.dependencies.specs.Tables.{Dep}
 use Rattle.dependencies.specs.Closure.{fixes?}

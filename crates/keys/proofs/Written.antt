@@ -1,5 +1,5 @@
 -- What the request for all keys leaves in the lent row, from what the walk wrote.
-use mathlib.Core.Path.{_≡_, refl, sym, ap, subst, _∙_}
+use mathlib.Core.Path.{_≡_, sym, ap, subst, _∙_}
 use mathlib.Core.List.{List, [], _∷_}
 use mathlib.Core.Logic.{inl}
 use Prim.Native.Nat.{ℕ, suc, _+_, _*_, _^_, _≤_, _<_}
@@ -16,10 +16,9 @@ use Rattle.dependencies.specs.Tables.{Dep}
 use Rattle.dependencies.specs.Layout.{columns-of, count-of, rules-of-row, reading, reading-with}
 use Rattle.dependencies.specs.Told.{done, refused, told}
 use Rattle.dependencies.specs.declared.refusals.Refusal.{Refusal}
-use Rattle.dependencies.specs.declared.refusals.Refusal.the-variants.{KeyRoom}
 use Rattle.dependencies.proofs.Asking.{reading-done, fits-next, fits-not, fits-none}
 use Rattle.dependencies.proofs.Lent.{put-fits, put-cut}
-use Rattle.keys.specs.Answer.{Keys-written, Keys-told}
+use Rattle.keys.specs.Answer.{Filled, Keys-written, Keys-told}
 use Rattle.keys.specs.Keys.{All-keys}
 use Rattle.keys.specs.Listed.{sets, Walked}
 use Rattle.keys.specs.Walks.{Key-in}
@@ -33,16 +32,14 @@ module _ (ds : List Dep) (b : Branch) (aim : ColumnSet) (aimed : b .target ≡ a
   listed r after w =
       all-keys (Key-in ds b) ds (cols aim) (sets (w .list)) (λ k h. h .rises) (of-entire ds b aim aimed bare all-free) (in-entire ds b aim aimed bare all-free) (w .found)
 
-  pub done-keys : (k : ℕ) (after : List ℕ) → Walked ds b row 0 (Some k) after → Keys-written ds (cols aim) row (Ok k) after
-  done-keys k after w =
+  pub filled : (r : Option ℕ) (after : List ℕ) → Walked ds b row 0 r after → Filled ds (cols aim) row r after
+  filled (Some k) after w =
       let p = room-some (length row) 0 k (w .list) (w .put .1) in
       let fits : length (w .list) ≤ length row = omega (arith, p .1 (omega arith)) in
       (w .list, listed (Some k) after w, omega (arith, p .0), fits, w .put .0 ∙ put-fits row (w .list) fits)
-
-  pub full-keys : (k : ℕ) (after : List ℕ) → k ≡ length row → Walked ds b row 0 None after → Keys-written ds (cols aim) row (Err (KeyRoom k)) after
-  full-keys k after e w =
+  filled None after w =
       let more : length row < length (w .list) = omega (arith, room-none (length row) 0 (w .list) (w .put .1)) in
-      (w .list, listed None after w, ap (refused 5) e, more, w .put .0 ∙ put-cut row (w .list) more)
+      (w .list, listed None after w, more, w .put .0 ∙ put-cut row (w .list) more)
 
 -- one set asked of behind the rules: it fits, or is told
 module _ (xs : List ℕ) (bits n k : ℕ) (read : reading xs ≡ done) (n-is : n ≡ columns-of xs) (k-is : k ≡ count-of xs) where

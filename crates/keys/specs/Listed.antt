@@ -1,5 +1,4 @@
 -- Lists of just the sets that are asked for, in order, and the keys of a branch as one.
-use mathlib.Core.Path.{_≡_}
 use mathlib.Core.List.{List, [], _∷_}
 use Prim.Native.Nat.{ℕ}
 use Rattle.std.specs.declared.option.Option.{Option}

@@ -1,7 +1,7 @@
 -- The sets that a walk has before it, and the keys among them.
 use mathlib.Core.Path.{_≡_}
-use mathlib.Core.Bool.{true, false, _||_}
-use mathlib.Core.List.{List, [], _∷_}
+use mathlib.Core.Bool.{false, _||_}
+use mathlib.Core.List.{List, _∷_}
 use mathlib.Core.Logic.{_⊎_}
 use Prim.Native.Nat.{ℕ}
 use lib.Dec.{eqb}
@@ -9,7 +9,7 @@ use Rattle.std.specs.declared.option.Option.{Option}
 use Rattle.std.specs.declared.option.Option.the-variants.{Some, None}
 use Rattle.columns.specs.Cols.{Cols, has, Rising}
 use Rattle.columns.specs.Members.{In, Sub}
-use Rattle.columns.specs.Order.{before, In-order}
+use Rattle.columns.specs.Order.{before}
 use Rattle.columns.specs.Sets.{cols}
 use Rattle.columns.specs.declared.set.ColumnSet.{ColumnSet}
 use Rattle.dependencies.specs.Tables.{Dep}
@@ -54,3 +54,8 @@ Prunes ds b (Fork h) = Divided b (h .with) (h .without) × (fixes? ds (cols (b .
 abbrev pub First : List Dep → Branch → Option ColumnSet → Type 0
 First ds b (Some s) = Key-in ds b (cols s) × ((k : Cols) → Key-in ds b k → before k (cols s) ≡ false)
 First ds b None = (k : Cols) → Key-in ds b k → ⊥
+
+-- the first key of p in the order of sets
+pub record First-key (ds : List Dep) (p k : Cols) : Type 0 where
+  pub key : Key ds p k
+  pub first : (j : Cols) → Rising j → Key ds p j → before j k ≡ false

@@ -1,4 +1,6 @@
-// Keys: sets of columns that fix a set, and of which no smaller part does.
+// Keys of a set of columns: sets inside it that fix it, and of which no smaller part does.
+// One walk over candidate sets, in the order of sets, finds the first key or writes all of them; nothing is sorted, and nothing
+// allocates.
 mod branch;
 mod branching;
 mod first;

@@ -3,7 +3,7 @@ ghost use Rattle.columns.specs.Sets.{cols};
 ghost use Rattle.dependencies.specs.Rules.{deps};
 ghost use Rattle.keys.specs.Room.{Put};
 ghost use Rattle.keys.specs.Listed.{Walked};
-ghost use Rattle.keys.specs.Answer.{Keys-written, Keys-told};
+ghost use Rattle.keys.specs.Answer.{Filled, Keys-written, Keys-told};
 use crate::branch::Branch;
 use crate::pruning::Pruned;
 use crate::pruning::prune;
@@ -40,17 +40,26 @@ fn walk(rules: &[Rule], branch: Branch, out: &mut [u64], count: usize) -> Option
     }
 }
 
+// Writes the keys of the target from the start of the row on.
+fn fill(rules: &[Rule], target: ColumnSet, out: &mut [u64]) -> Option<usize>
+    ensures { λ r. ⌜ Filled (deps (now (rules .entry))) (cols target) (now (out .entry)) r (now (out .exit)) ⌝ }
+{
+    walk(rules, Branch::whole(target), out, 0)
+}
+
 // All keys of the target, each once and in the order of sets, as numbers at the start of the lent row; how many there are.
 pub fn write_keys(rules: &[Rule], target: ColumnSet, out: &mut [u64]) -> Result<u64, Refusal>
     ensures { λ r. ⌜ Keys-written (deps (now (rules .entry))) (cols target) (now (out .entry)) r (now (out .exit)) ⌝ }
 {
-    let Some(count) = walk(rules, Branch::whole(target), out, 0) else {
+    let Some(count) = fill(rules, target, out) else {
         return Err(Refusal::KeyRoom(out.len() as u64));
     };
     Ok(count as u64)
 }
 
-// The same, asked of lent rules. The set whose keys are asked for is counted behind those of the rules.
+// The same, asked of lent rules. The set whose keys are asked for is counted behind those of the rules. Where these cannot be
+// read or the set names a column that is not there, the row is as it was; where it has no room for the next key, it holds
+// those before it.
 pub fn candidate_keys(lent: &[u64], set: u64, out: &mut [u64]) -> Result<u64, Refusal>
     ensures { λ r. ⌜ Keys-told (now (lent .entry)) set (now (out .entry)) r (now (out .exit)) ⌝ }
 {

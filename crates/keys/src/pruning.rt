@@ -1,6 +1,4 @@
 // What a branch of the walk can hold, so that those without a key are cut off.
-ghost use mathlib.Core.Path.{_≡_};
-ghost use Rattle.columns.specs.Sets.{cols};
 ghost use Rattle.dependencies.specs.Rules.{deps};
 ghost use Rattle.keys.specs.Walks.{Prunes};
 use crate::branch::Branch;

@@ -1,10 +1,9 @@
-use borrow.Author.Needs.{needs}
 use native.Mathlib.Omega.{arith}
 use mathlib.Core.Path.{_≡_, refl, sym, ap, _∙_}
 use mathlib.Core.Bool.{Bool, true, false, not}
 use Prim.Native.Nat.{ℕ}
 use lib.ListN.{length}
-use Rattle.columns.specs.Cols.{Cols, less}
+use Rattle.columns.specs.Cols.{less}
 use Rattle.columns.specs.Every.{every}
 use Rattle.columns.specs.Sets.{cols}
 use Rattle.dependencies.specs.Closure.{fixes?}

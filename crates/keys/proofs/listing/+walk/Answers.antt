@@ -1,6 +1,3 @@
-use mathlib.Core.Path.{_≡_}
-use Rattle.columns.specs.Cols.{set-in}
-use Rattle.columns.specs.Sets.{cols}
 use Rattle.dependencies.specs.Rules.{deps}
 use Rattle.keys.proofs.Walking.{walked-leaf, walked-dead, walked-both, walked-stop}
 use Rattle.keys.proofs.listing.+walk.Needs as need

@@ -1,4 +1,4 @@
-use mathlib.Core.Path.{_≡_, refl, ap, _∙_}
+use mathlib.Core.Path.{refl, ap, _∙_}
 use mathlib.Core.Logic.{inr}
 use Rattle.columns.specs.Cols.{set-in}
 use Rattle.columns.specs.Sets.{cols}

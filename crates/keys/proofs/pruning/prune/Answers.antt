@@ -1,8 +1,6 @@
-use mathlib.Core.Path.{_≡_, sym}
-use mathlib.Core.Bool.{true, false}
+use mathlib.Core.Path.{sym}
 use Rattle.columns.specs.Sets.{cols}
 use Rattle.columns.proofs.SetNumbers.{cols-rising}
-use Rattle.dependencies.specs.Closure.{fixes?}
 use Rattle.dependencies.specs.Rules.{deps}
 use Rattle.keys.proofs.Branches.{no-larger, found-here, spares-one, hopeless, none-free}
 use Rattle.keys.proofs.pruning.prune.Needs as need
