@@ -8,5 +8,6 @@ pub mod Judge
 pub mod Made
 pub mod Plans
 pub mod Sets
+pub mod Sides
 pub mod Theorems
 pub mod Writing
