@@ -11,7 +11,7 @@ use Rattle.columns.specs.Cols.{pick}
 use Rattle.columns.specs.Every.{any}
 use Rattle.columns.specs.Members.{Sub}
 use Rattle.columns.proofs.Lists.{or-assoc}
-use Rattle.schema.specs.Sets.{those, others}
+use Rattle.schema.specs.Sides.{those, others}
 
 module _ {A : Type 0} (f : A → Bool) where
   pub those-push : (xs : List A) (x : A) → those f (xs ++ x ∷ []) ≡ those f xs ++ pick (f x) (x ∷ []) []

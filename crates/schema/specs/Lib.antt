@@ -8,6 +8,7 @@ pub mod Judge
 pub mod Made
 pub mod Plans
 pub mod Sets
+pub mod Sides
 pub mod Theorems
 pub mod Writing
 pub mod Shown

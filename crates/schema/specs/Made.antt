@@ -1,20 +1,21 @@
 -- Parts made from rules and sets of columns. Assumes nothing: these are definitions.
 use mathlib.Core.Bool.{Bool, _&&_}
 use mathlib.Core.List.{List, [], _∷_}
-use Rattle.columns.specs.Cols.{Cols, all-in, pick}
+use Rattle.columns.specs.Cols.{Cols, all-in}
 use Rattle.dependencies.specs.Tables.{Dep}
 use Rattle.schema.specs.Design.{Part}
+use Rattle.schema.specs.Sides.{those, others}
 
 abbrev pub lies : Dep → Cols → Bool
 lies d x = all-in (d .left) x && all-in (d .right) x
 
+-- the rules that lie in the set
 abbrev pub lying : List Dep → Cols → List Dep
-lying [] x = []
-lying (m ∷ ms) x = pick (lies m x) (m ∷ lying ms x) (lying ms x)
+lying ms x = those (λ m. lies m x) ms
 
+-- the rules that do not
 abbrev pub left-over : List Dep → Cols → List Dep
-left-over [] x = []
-left-over (m ∷ ms) x = pick (lies m x) (left-over ms x) (m ∷ left-over ms x)
+left-over ms x = others (λ m. lies m x) ms
 
 -- each set with the rules that lie in it, and in no set before it
 abbrev pub parts-of : List Dep → List Cols → List Part

@@ -6,17 +6,8 @@ use Rattle.columns.specs.Cols.{Cols, all-in, pick}
 use Rattle.columns.specs.Every.{any}
 use Rattle.columns.specs.Sets.{cols}
 use Rattle.columns.specs.declared.set.ColumnSet.{ColumnSet}
+use Rattle.schema.specs.Sides.{others}
 use Rattle.schema.specs.declared.part_sets.PartSets.{PartSets}
-
--- the members of a list of which the test holds
-abbrev pub those : {A : Type 0} → (A → Bool) → List A → List A
-those f [] = []
-those f (x ∷ xs) = pick (f x) (x ∷ those f xs) (those f xs)
-
--- and those of which it does not
-abbrev pub others : {A : Type 0} → (A → Bool) → List A → List A
-others f [] = []
-others f (x ∷ xs) = pick (f x) (others f xs) (x ∷ others f xs)
 
 unfoldable pub sets-of : List ColumnSet → List Cols
 sets-of [] = []

@@ -9,7 +9,7 @@ use Rattle.columns.specs.Sets.{cols}
 use Rattle.columns.specs.declared.set.ColumnSet.{ColumnSet}
 use Rattle.dependencies.specs.declared.rules.Rule.{Rule}
 use Rattle.dependencies.specs.Lent.{put-list}
-use Rattle.schema.specs.Sets.{those, others}
+use Rattle.schema.specs.Sides.{those, others}
 use Rattle.schema.specs.declared.unplaced.Unplaced.{Unplaced}
 
 -- the rules that are left
