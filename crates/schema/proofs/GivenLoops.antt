@@ -4,8 +4,11 @@ use mathlib.Core.Bool.{Bool, true, false, _&&_}
 use mathlib.Core.List.{List, [], _∷_}
 use Prim.Native.Nat.{ℕ, _<_}
 use native.Mathlib.Omega.{arith}
-use lib.ListN.{length, drop}
+use lib.ListN.{length, getD, drop}
 use Rattle.columns.specs.Every.{every}
+use Rattle.columns.specs.Sets.{cols}
+use Rattle.columns.specs.declared.set.ColumnSet.{ColumnSet}
+use Rattle.schema.specs.Design.{Part, no-part}
 
 module _ {A : Type 0} (f : A → Bool) (todo : List A) (x : A) where
   pub every-turn : (rest : List A) → todo ≡ x ∷ drop 1 todo → rest ≡ drop 1 todo → f x ≡ true → every todo f ≡ every rest f
@@ -23,3 +26,7 @@ shorter todo rest x e r =
     let a = ap length e in
     let b = ap length r in
     omega arith
+
+-- the first part, once its columns are known
+abbrev pub headpart : ColumnSet → List Part → Part
+headpart s ps = record { cols = cols s; rules = getD ps 0 no-part .rules }

@@ -45,6 +45,7 @@ fn agree_on(one: &[u64; 16], two: &[u64; 16], columns: ColumnSet) -> bool
     true
 }
 
+// A row after a merge.
 fn lowered(row: [u64; 16], merge: Merge) -> [u64; 16]
     ensures { λ r. ⌜ r ≡ put-low (merge .column .index) (merge .high) (merge .low) row ⌝ }
 {
@@ -55,6 +56,7 @@ fn lowered(row: [u64; 16], merge: Merge) -> [u64; 16]
     after
 }
 
+// The merge in all rows: what was equal in the column stays so.
 fn lower(rows: &mut [[u64; 16]], merge: Merge)
     ensures { λ _. ⌜ now (rows .exit) ≡ mend (fault merge) (now (rows .entry)) ⌝ }
 {
@@ -113,6 +115,7 @@ fn apply(rows: &mut [[u64; 16]], rule: Rule, one: usize, two: usize) -> bool
     changed
 }
 
+// A rule on one row and each behind it; whether anything changed.
 fn sweep_row(rows: &mut [[u64; 16]], rule: Rule, one: usize) -> bool
     requires { ⌜ one < length (now rows) ⌝ }
     ensures { λ r. ⌜ Sweep (dep rule ∷ []) (Row-quiet (dep rule) (now (rows .entry)) (length (now (rows .entry))) one) (now (rows .entry)) (now (rows .exit)) r ⌝ }
@@ -124,6 +127,7 @@ fn sweep_row(rows: &mut [[u64; 16]], rule: Rule, one: usize) -> bool
     changed
 }
 
+// A rule on all pairs of rows, each once: it asks the same of a pair either way round.
 fn sweep_rule(rows: &mut [[u64; 16]], rule: Rule) -> bool
     ensures { λ r. ⌜ Sweep (dep rule ∷ []) (Rule-quiet (dep rule) (now (rows .entry)) (length (now (rows .entry)))) (now (rows .entry)) (now (rows .exit)) r ⌝ }
 {
@@ -183,6 +187,7 @@ fn lay_out(rows: &mut [[u64; 16]], design: GivenDesign)
     }
 }
 
+// Whether some row is 0 in all columns of the table.
 fn has_zero_row(rows: &[[u64; 16]], width: Width) -> bool
     ensures { λ r. ⌜ r ≡ any (now (rows .entry)) (λ x. agree (range-of 0 (width .columns)) (zero-row 16) x) ⌝ }
 {
@@ -195,6 +200,7 @@ fn has_zero_row(rows: &[[u64; 16]], width: Width) -> bool
     false
 }
 
+// Sets all cells to 0.
 fn clear(rows: &mut [[u64; 16]])
     ensures { λ _. ⌜ now (rows .exit) ≡ blank (length (now (rows .entry))) ⌝ }
 {

@@ -65,7 +65,8 @@ fn judge(
 }
 
 // Whether lent numbers are a design for lent rules: yes exactly if they are, or the first refusal that applies. The tableau is
-// worked in: it needs a row a part, and 12,870 rows suffice for any design, since no more sets of 16 columns lie outside each other.
+// worked in: it needs a row a part. No more than 12,870 sets of 16 columns lie outside each other, by Sperner's theorem, on which
+// nothing here rests: so many rows are never too few.
 pub fn check_design(
     rules: &[u64],
     design: &[u64],

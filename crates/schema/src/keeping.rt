@@ -29,6 +29,7 @@ fn stands(rule: Rule, part: ColumnSet, rules: &[Rule]) -> bool
     rule.right.is_subset(closure(rules, rule.left))
 }
 
+// Whether all rules of a part do.
 fn own_rules_stand(own: OwnRules, part: ColumnSet, rules: &[Rule]) -> bool
     ensures { λ r. ⌜ r ≡ every (own-of (own .entry)) (stands? (deps (now (rules .entry))) (cols part)) ⌝ }
 {
@@ -42,6 +43,7 @@ fn own_rules_stand(own: OwnRules, part: ColumnSet, rules: &[Rule]) -> bool
     true
 }
 
+// Whether the rules of all parts do.
 fn all_stand(design: GivenDesign, rules: &[Rule]) -> bool
     ensures { λ r. ⌜ r ≡ every (given-parts (design .entry)) (λ p. every (p .rules) (stands? (deps (now (rules .entry))) (p .cols))) ⌝ }
 {
@@ -110,6 +112,7 @@ fn given_follow(design: GivenDesign, rules: &[Rule]) -> bool
     true
 }
 
+// Whether the own rules ask no more than the given ones, each inside its part, and no less.
 pub(crate) fn keeps_rules(design: GivenDesign, rules: &[Rule]) -> bool
     ensures { λ r. ⌜ Decides (Keeps-rules (deps (now (rules .entry))) (given-parts (design .entry))) r ⌝ }
 {

@@ -11,6 +11,7 @@ use crate::given_parts::behind;
 use columns::ColumnSet;
 use columns::Width;
 
+// Whether none of the first `count` sets names a column that is not there.
 fn sets_fit(numbers: &[u64], count: usize, width: Width) -> bool
     requires { ⌜ count ≤ length (now numbers) ⌝ }
     ensures { λ r. ⌜ r ≡ sets-fit (width .columns) count (now (numbers .entry)) ⌝ }
@@ -43,6 +44,7 @@ fn part_size(numbers: &[u64], width: Width) -> Option<usize>
     Some(2 + 2 * count)
 }
 
+// Whether the numbers hold as many parts as the first of them says. Parts are counted down, so that a count past their end is soon found out.
 pub(crate) fn readable(lent: &[u64], width: Width) -> bool
     ensures { λ r. ⌜ r ≡ readable? (width .columns) (now (lent .entry)) ⌝ }
 {

@@ -80,6 +80,7 @@ fn joined(c: Column, without: Found, with: Found) -> Found
     }
 }
 
+// What all sets of a branch show: those without its next column, and those with it.
 fn walk(rules: &[Rule], branch: Branch) -> Found
     ensures { λ r. ⌜ Finds (deps (now (rules .entry))) (cols (branch .part)) (cols (branch .set)) (cols (branch .left)) r ⌝ }
 {

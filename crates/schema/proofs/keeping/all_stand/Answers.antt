@@ -1,23 +1,18 @@
 use mathlib.Core.Path.{_≡_, refl, sym, ap, _∙_}
 use mathlib.Core.Bool.{Bool}
 use mathlib.Core.List.{List}
-use lib.ListN.{getD}
 use Rattle.columns.specs.Every.{every}
 use Rattle.columns.specs.Sets.{cols}
-use Rattle.columns.specs.declared.set.ColumnSet.{ColumnSet}
 use Rattle.dependencies.specs.Rules.{deps}
 use Rattle.dependencies.specs.Tables.{Dep}
-use Rattle.schema.specs.Design.{Part, no-part}
+use Rattle.schema.specs.Design.{Part}
 use Rattle.schema.specs.Given.{given-parts}
 use Rattle.schema.specs.Kept.{stands?}
-use Rattle.schema.proofs.GivenLoops.{every-turn, every-stop, every-end, shorter}
+use Rattle.schema.proofs.GivenLoops.{every-turn, every-stop, every-end, shorter, headpart}
 use Rattle.schema.proofs.keeping.all_stand.Needs as need
 
 abbrev stand : List Dep → Part → Bool
 stand ds p = every (p .rules) (stands? ds (p .cols))
-
-abbrev headpart : ColumnSet → List Part → Part
-headpart s ps = record { cols = cols s; rules = getD ps 0 no-part .rules }
 
 pub loop-part-holds : need.loop-part-holds
 loop-part-holds c = refl

@@ -7,7 +7,7 @@ use Rattle.dependencies.specs.Closure.{round}
 use Rattle.dependencies.specs.Tables.{Dep}
 use Rattle.schema.specs.Design.{no-part, all-rules}
 use Rattle.schema.specs.Given.{given-parts}
-use Rattle.schema.proofs.GivenLoops.{shorter}
+use Rattle.schema.proofs.GivenLoops.{shorter, headpart}
 use Rattle.schema.proofs.OwnRounds.{part-turn, parts-end}
 use Rattle.schema.proofs.keeping.design_round.Needs as need
 
@@ -17,7 +17,7 @@ loop-todo-holds c = λ d. refl
 pub loop-todo-less : need.loop-todo-less
 loop-todo-less c =
     let ps = given-parts (c .loop-todo .todo) in
-    shorter ps (given-parts (c .rest-todo .result)) (record { cols = cols (c .in-Some .field-0); rules = getD ps 0 no-part .rules }) (c .in-Some .ensures tt)
+    shorter ps (given-parts (c .rest-todo .result)) (headpart (c .in-Some .field-0) ps) (c .in-Some .ensures tt)
     (c .rest-todo .ensures)
 
 pub loop-todo-again : need.loop-todo-again

@@ -1,19 +1,13 @@
 use mathlib.Core.Path.{_≡_, refl, sym, ap, ap₂, _∙_}
 use mathlib.Core.Bool.{Bool, true, false, _&&_, not}
 use mathlib.Core.List.{List}
-use lib.ListN.{getD}
 use Rattle.columns.specs.Cols.{Cols, all-in}
 use Rattle.columns.specs.Sets.{cols}
-use Rattle.columns.specs.declared.set.ColumnSet.{ColumnSet}
-use Rattle.schema.specs.Design.{Part, no-part}
+use Rattle.schema.specs.Design.{Part}
 use Rattle.schema.specs.Given.{given-parts}
 use Rattle.schema.specs.Kept.{apart?}
-use Rattle.schema.proofs.GivenLoops.{every-turn, every-stop, every-end, shorter}
+use Rattle.schema.proofs.GivenLoops.{every-turn, every-stop, every-end, shorter, headpart}
 use Rattle.schema.proofs.spread.apart.Needs as need
-
--- the first part, once its columns are known
-abbrev headpart : ColumnSet → List Part → Part
-headpart s ps = record { cols = cols s; rules = getD ps 0 no-part .rules }
 
 second-false : (a : Bool) → (a && not true) ≡ false
 second-false true = refl

@@ -1,12 +1,10 @@
 use mathlib.Core.Path.{_≡_, sym, ap, _∙_}
 use mathlib.Core.List.{List, []}
-use lib.ListN.{getD}
 use Rattle.columns.specs.Cols.{Cols, all-in}
 use Rattle.columns.specs.Sets.{cols}
-use Rattle.schema.specs.Design.{no-part}
 use Rattle.schema.specs.Given.{given-parts}
 use Rattle.schema.proofs.Covered.{covering-start, covering-turn, covering-end, parts-within}
-use Rattle.schema.proofs.GivenLoops.{shorter}
+use Rattle.schema.proofs.GivenLoops.{shorter, headpart}
 use Rattle.schema.proofs.spread.covers.Needs as need
 
 pub loop-part-holds : need.loop-part-holds
@@ -15,7 +13,7 @@ loop-part-holds c = covering-start (cols (c .all-missing .result)) (given-parts 
 pub loop-part-less : need.loop-part-less
 loop-part-less c =
     let ps = given-parts (c .loop-part .todo) in
-    shorter ps (given-parts (c .rest-todo .result)) (record { cols = cols (c .in-Some .part); rules = getD ps 0 no-part .rules }) (c .in-Some .ensures tt)
+    shorter ps (given-parts (c .rest-todo .result)) (headpart (c .in-Some .part) ps) (c .in-Some .ensures tt)
     (c .rest-todo .ensures)
 
 pub loop-part-again : need.loop-part-again

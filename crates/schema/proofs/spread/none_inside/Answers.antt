@@ -1,20 +1,16 @@
 use mathlib.Core.Path.{_≡_, refl, sym, ap, _∙_}
 use mathlib.Core.Bool.{Bool, true, false, _&&_}
 use mathlib.Core.List.{List, [], _∷_}
-use lib.ListN.{getD, drop}
+use lib.ListN.{drop}
 use Rattle.columns.specs.Cols.{Cols}
 use Rattle.columns.specs.Every.{every}
 use Rattle.columns.specs.Sets.{cols}
-use Rattle.columns.specs.declared.set.ColumnSet.{ColumnSet}
-use Rattle.schema.specs.Design.{Part, no-part}
+use Rattle.schema.specs.Design.{Part}
 use Rattle.schema.specs.Given.{given-parts, headed}
 use Rattle.schema.specs.Judge.{none-inside?}
 use Rattle.schema.specs.Kept.{apart?}
-use Rattle.schema.proofs.GivenLoops.{shorter}
+use Rattle.schema.proofs.GivenLoops.{shorter, headpart}
 use Rattle.schema.proofs.spread.none_inside.Needs as need
-
-abbrev headpart : ColumnSet → List Part → Part
-headpart s ps = record { cols = cols s; rules = getD ps 0 no-part .rules }
 
 front : (ps rest : List Part) (cs : Cols) → ps ≡ headed cs ps → rest ≡ drop 1 ps → none-inside? ps ≡ (every rest (apart? cs) && none-inside? rest)
 front ps rest cs e r = ap none-inside? e ∙ ap (λ (v : List Part). every v (apart? cs) && none-inside? v) (sym r)

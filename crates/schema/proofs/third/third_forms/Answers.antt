@@ -1,18 +1,13 @@
 use mathlib.Core.Path.{_≡_, refl, sym, ap, subst, _∙_}
 use mathlib.Core.Logic.{_⊎_, inl, inr}
 use mathlib.Core.List.{List, [], _∷_}
-use lib.ListN.{getD}
 use Rattle.columns.specs.Members.{In}
 use Rattle.columns.specs.Sets.{cols}
-use Rattle.columns.specs.declared.set.ColumnSet.{ColumnSet}
 use Rattle.dependencies.specs.Rules.{deps}
-use Rattle.schema.specs.Design.{Part, no-part, Third-form}
+use Rattle.schema.specs.Design.{Part, Third-form}
 use Rattle.schema.specs.Given.{given-parts}
-use Rattle.schema.proofs.GivenLoops.{shorter}
+use Rattle.schema.proofs.GivenLoops.{shorter, headpart}
 use Rattle.schema.proofs.third.third_forms.Needs as need
-
-abbrev headpart : ColumnSet → List Part → Part
-headpart s ps = record { cols = cols s; rules = getD ps 0 no-part .rules }
 
 pub loop-part-holds : need.loop-part-holds
 loop-part-holds c = (λ p h. inl h, λ p h. h)
