@@ -7,6 +7,7 @@ pub mod Days
 pub mod Decoded
 pub mod Formed
 pub mod Keeping
+pub mod Letters
 pub mod Masking
 pub mod Obeying
 pub mod Placed

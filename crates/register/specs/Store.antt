@@ -2,10 +2,10 @@
 -- column, 0 in columns that are not its own, and then how many rows look so. What is held ends at the first row whose count is 0.
 use mathlib.Core.Path.{_≡_}
 use mathlib.Core.Bool.{Bool, true, _&&_}
-use mathlib.Core.List.{List, [], _∷_}
+use mathlib.Core.List.{List, [], _∷_, _++_}
 use Prim.Native.Nat.{ℕ, zero, suc, _+_, _*_, _/_, _^_, _≤_, _<_}
 use lib.Dec.{eqb, ltb, leb}
-use lib.ListN.{length, getD, take, drop}
+use lib.ListN.{length, getD, take, drop, replicate}
 use Rattle.columns.specs.Cols.{Cols, pick}
 use Rattle.dependencies.specs.Tables.{Row, agree}
 use Rattle.schema.specs.Layout.{sets-fit}
@@ -35,6 +35,16 @@ Clean n k xs = (j : ℕ) → length (held-in n k xs) * (n + 1) ≤ j → getD xs
 -- the same of k parts
 abbrev pub All-clean : ℕ → ℕ → ℕ → List ℕ → Type 0
 All-clean n room k xs = (p : ℕ) → p < k → Clean n room (take (room * (n + 1)) (drop (p * (room * (n + 1))) xs))
+
+-- the cells of a part with room for k rows that holds these: each look and its count, and then nothing but 0
+unfoldable pub rows-written : ℕ → ℕ → List Held → List ℕ
+rows-written n zero hs = []
+rows-written n (suc k) [] = replicate (n + 1) 0 ++ rows-written n k []
+rows-written n (suc k) (h ∷ hs) = h .looks ++ (h .times ∷ rows-written n k hs)
+
+unfoldable pub cells-written : ℕ → ℕ → List (List Held) → List ℕ
+cells-written n room [] = []
+cells-written n room (hs ∷ hss) = rows-written n room hs ++ cells-written n room hss
 
 -- the place of the first look that a row has in these columns, or how many looks there are
 unfoldable pub place-in : Cols → Row → List Held → ℕ

@@ -2,11 +2,12 @@
 use mathlib.Core.Path.{_≡_}
 use mathlib.Core.Bool.{Bool, true, false}
 use mathlib.Core.List.{List, [], _∷_, _++_}
-use Prim.Native.Nat.{ℕ, _≤_, _<_}
-use lib.ListN.{length, getD}
+use Prim.Native.Nat.{ℕ, _+_, _*_, _≤_, _<_}
+use lib.ListN.{length, getD, take}
 use Rattle.columns.specs.Cols.{columns}
 use Rattle.dependencies.specs.Tables.{Row, Dep, Proper}
 use Rattle.schema.specs.Design.{Part, Design}
+use Rattle.register.specs.Store.{room-of, held-of, Clean-cells, cells-written}
 use Rattle.register.specs.Day.{Deed, insert, remove, present, whole-day, whole-end, all-hold, parts-day, parts-end, bare}
 
 -- Take any rules, any design for them, and any day of rows that come and go. The parts, each asking its own rules alone, take exactly
@@ -38,3 +39,9 @@ unfoldable pub Undone : Type 0
 Undone =
     (n : ℕ) (ds : List Dep) (ps : List Part) (es : List Deed) → Proper n ds → Design n ds ps →
     All-taken (parts-day ps (bare ps) es) → parts-end ps (bare ps) (es ++ backwards es) ≡ bare ps
+
+-- What the parts hold says to the letter what stands in clean cells.
+unfoldable pub To-the-letter : Type 0
+To-the-letter =
+    (n : ℕ) (d g : List ℕ) → Clean-cells n d g →
+    take (getD d 0 0 * (room-of n d g * (n + 1))) g ≡ cells-written n (room-of n d g) (held-of n d g)

@@ -17,6 +17,7 @@ mod walking;
 mod whole_row;
 
 pub use register::Register;
+pub use theorems::cells_to_the_letter;
 pub use theorems::day_undone;
 pub use theorems::organs_day_in_one_table;
 pub use theorems::parts_as_whole;
