@@ -1,6 +1,8 @@
 // Tests designs for 16 columns, once for each byte that it reads: `c` and `m` for those made for the circles and for the mixed table,
 // `1` to `4` for one of 60, 125, 250 and 500 parts. It writes how many are designs, and a mix of the verdicts that depends on each.
 // bench/check/run times it.
+#![tactic(auto)]
+
 use schema::design_for;
 use std::alloc::{AllocError, Global};
 use std::io::Read;

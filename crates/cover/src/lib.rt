@@ -2,6 +2,8 @@
 // follows from the others, and no column can be left out of a left side.
 // The way there: each rule is split by its right columns, and each left side reduced for its own right column alone; then, rule by rule,
 // what follows from the others is left out. Nothing here allocates.
+#![tactic(auto)]
+
 mod fine;
 mod held;
 mod least;

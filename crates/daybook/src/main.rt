@@ -1,5 +1,7 @@
 // Reads the rules of a register and the deeds of a day from standard input, keeps the register in the parts of a design for the
 // rules, and prints a line for each deed; or the refusal of the rules.
+#![tactic(auto)]
+
 use anyhow::anyhow;
 use columns::Width;
 use dependencies::{Refusal, rule_row, rules_from_bytes};

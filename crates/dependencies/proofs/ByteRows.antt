@@ -125,10 +125,10 @@ module _ (xs : List ℕ) where
   few_rules_lem : count_ok xs ≡ true → count_of xs ≤ 32
   few_rules_lem t = leb-true (count_of xs) 32 (and_parts (leb (count_of xs) 32) (leb (2 + 2 * count_of xs) (length xs)) t).0
 
-  abbrev sets-part : List ℕ → Told
-  sets-part ys = sets_told (columns_of ys) 0 (2 * count_of ys) (drop 2 ys)
+  abbrev sets_part : List ℕ → Told
+  sets_part ys = sets_told (columns_of ys) 0 (2 * count_of ys) (drop 2 ys)
 
-  sets_cut : count_ok xs ≡ true → sets-part cut ≡ sets-part xs
+  sets_cut : count_ok xs ≡ true → sets_part cut ≡ sets_part xs
   sets_cut t =
       let few = few_rules_lem t in
       ap (λ n. sets_told n 0 (2 * count_of cut) (drop 2 cut)) columns_cut
@@ -138,15 +138,15 @@ module _ (xs : List ℕ) where
 
   pub reading_cut : reading cut ≡ reading xs
   reading_cut =
-      ap (λ n. pick (leb 1 n && leb n 16) (pick (count_ok cut) (sets-part cut) (refused 2 (count_of cut))) (refused 1 0)) columns_cut
+      ap (λ n. pick (leb 1 n && leb n 16) (pick (count_ok cut) (sets_part cut) (refused 2 (count_of cut))) (refused 1 0)) columns_cut
       ∙ ap (λ t. pick (width_ok xs) t (refused 1 0))
       (elim (cases_Bool (count_ok xs)) [
         | inl t ↦
-            ap (λ b. pick b (sets-part cut) (refused 2 (count_of cut))) (count_ok_cut ∙ t) ∙ sets_cut t
-            ∙ sym (ap (λ b. pick b (sets-part xs) (refused 2 (count_of xs))) t)
+            ap (λ b. pick b (sets_part cut) (refused 2 (count_of cut))) (count_ok_cut ∙ t) ∙ sets_cut t
+            ∙ sym (ap (λ b. pick b (sets_part xs) (refused 2 (count_of xs))) t)
         | inr t ↦
-            ap (λ b. pick b (sets-part cut) (refused 2 (count_of cut))) (count_ok_cut ∙ t) ∙ ap (refused 2) counts_cut
-            ∙ sym (ap (λ b. pick b (sets-part xs) (refused 2 (count_of xs))) t)
+            ap (λ b. pick b (sets_part cut) (refused 2 (count_of cut))) (count_ok_cut ∙ t) ∙ ap (refused 2) counts_cut
+            ∙ sym (ap (λ b. pick b (sets_part xs) (refused 2 (count_of xs))) t)
       ])
 
   all_rules_cut : count_of xs ≤ 32 → rules_of_row cut ≡ rules_of_row xs

@@ -34,18 +34,18 @@ module _ (n : ℕ) (ds : List Dep) (small : Small n ds) where
   abbrev one_cell : ℕ → ℕ → ℕ
   one_cell m c = pick (has base c) 0 (suc (m + m))
 
-  abbrev two-cell : ℕ → Cols → ℕ → ℕ
-  two-cell m x c = pick (has (closure ds x) c) (one_cell m c) (suc (suc (m + m)))
+  abbrev two_cell : ℕ → Cols → ℕ → ℕ
+  two_cell m x c = pick (has (closure ds x) c) (one_cell m c) (suc (suc (m + m)))
 
-  abbrev one-row : ℕ → Row
-  one-row m = draw (one_cell m) 0 n
+  abbrev one_row : ℕ → Row
+  one_row m = draw (one_cell m) 0 n
 
-  abbrev two-row : ℕ → Cols → Row
-  two-row m x = draw (two-cell m x) 0 n
+  abbrev two_row : ℕ → Cols → Row
+  two_row m x = draw (two_cell m x) 0 n
 
   abbrev rows : ℕ → List Cols → List Row
   rows m [] = []
-  rows m (x ∷ xs) = one-row m ∷ two-row m x ∷ rows (suc m) xs
+  rows m (x ∷ xs) = one_row m ∷ two_row m x ∷ rows (suc m) xs
 
   abbrev Lower : ℕ → ℕ → ℕ → Type 0
   Lower u c v = (In c base → v ≡ 0) × ((In c base → ⊥) → (0 < v) × (v < u))
@@ -70,12 +70,12 @@ module _ (n : ℕ) (ds : List Dep) (small : Small n ds) where
   base_in : (x : Cols) → Sub base (closure ds x)
   base_in x = closure_monotone ds [] x (λ c i. absurd i)
 
-  two_lower : (m : ℕ) (x : Cols) (c : ℕ) → Lower (suc (suc (suc (m + m)))) c (two-cell m x c)
+  two_lower : (m : ℕ) (x : Cols) (c : ℕ) → Lower (suc (suc (suc (m + m)))) c (two_cell m x c)
   two_lower m x c =
       pick_both (has (closure ds x) c) (one_cell m c) (suc (suc (m + m))) (Lower (suc (suc (suc (m + m)))) c) (λ e. one_lower m c)
       (λ e. (λ i. absurd (has_not_in (closure ds x) c e (base_in x c i)), λ f. (omega arith, omega arith)))
 
-  two_upper : (m : ℕ) (x : Cols) (c : ℕ) → Upper (suc (m + m)) c (two-cell m x c)
+  two_upper : (m : ℕ) (x : Cols) (c : ℕ) → Upper (suc (m + m)) c (two_cell m x c)
   two_upper m x c =
       pick_both (has (closure ds x) c) (one_cell m c) (suc (suc (m + m))) (Upper (suc (m + m)) c) (λ e. one_upper m c)
       (λ e. (λ i. absurd (has_not_in (closure ds x) c e (base_in x c i)), λ f. omega arith))
@@ -90,7 +90,7 @@ module _ (n : ℕ) (ds : List Dep) (small : Small n ds) where
         | inl e ↦ subst (λ v. Upper (suc (m + m)) c (get_or v c 0)) e (subst (Upper (suc (m + m)) c) (sym (drawn (one_cell m) n c l)) (one_upper m c))
         | inr k ↦
             elim k [
-              | inl e ↦ subst (λ v. Upper (suc (m + m)) c (get_or v c 0)) e (subst (Upper (suc (m + m)) c) (sym (drawn (two-cell m x) n c l)) (two_upper m x c))
+              | inl e ↦ subst (λ v. Upper (suc (m + m)) c (get_or v c 0)) e (subst (Upper (suc (m + m)) c) (sym (drawn (two_cell m x) n c l)) (two_upper m x c))
               | inr j ↦ upper_less (suc (m + m)) (suc (suc m + suc m)) c (get_or r c 0) (omega arith) (rows_upper (suc m) xs r j c l)
             ]
       ]
@@ -102,21 +102,21 @@ module _ (n : ℕ) (ds : List Dep) (small : Small n ds) where
       (λ c l e. elim (in_or_not base c) [ inl h ↦ h | inr h ↦ absurd (let a = (low c l).1 h in let b = (high c l).1 h in omega arith) ])
       (λ c l i. (low c l).0 i ∙ sym ((high c l).0 i))
 
-  apart_cell : (m : ℕ) (x : Cols) (c : ℕ) → one_cell m c ≡ two-cell m x c → In c (closure ds x)
+  apart_cell : (m : ℕ) (x : Cols) (c : ℕ) → one_cell m c ≡ two_cell m x c → In c (closure ds x)
   apart_cell m x c =
       pick_both (has (closure ds x) c) (one_cell m c) (suc (suc (m + m))) (λ v. one_cell m c ≡ v → In c (closure ds x))
       (λ e q. has_in (closure ds x) c e) (λ e q. absurd (omega (arith, one_small m c)))
 
-  equal_cell : (m : ℕ) (x : Cols) (c : ℕ) → In c (closure ds x) → one_cell m c ≡ two-cell m x c
+  equal_cell : (m : ℕ) (x : Cols) (c : ℕ) → In c (closure ds x) → one_cell m c ≡ two_cell m x c
   equal_cell m x c i =
       pick_both (has (closure ds x) c) (one_cell m c) (suc (suc (m + m))) (λ v. one_cell m c ≡ v)
       (λ e. refl) (λ e. absurd (has_not_in (closure ds x) c e i))
 
-  pub apart : (m : ℕ) (x : Cols) (c : ℕ) → c < n → Same (one-row m) (two-row m x) c → In c (closure ds x)
-  apart m x c l e = apart_cell m x c (sym (drawn (one_cell m) n c l) ∙ e ∙ drawn (two-cell m x) n c l)
+  pub apart : (m : ℕ) (x : Cols) (c : ℕ) → c < n → Same (one_row m) (two_row m x) c → In c (closure ds x)
+  apart m x c l e = apart_cell m x c (sym (drawn (one_cell m) n c l) ∙ e ∙ drawn (two_cell m x) n c l)
 
-  pub equal : (m : ℕ) (x : Cols) (c : ℕ) → c < n → In c (closure ds x) → Same (one-row m) (two-row m x) c
-  equal m x c l i = drawn (one_cell m) n c l ∙ equal_cell m x c i ∙ sym (drawn (two-cell m x) n c l)
+  pub equal : (m : ℕ) (x : Cols) (c : ℕ) → c < n → In c (closure ds x) → Same (one_row m) (two_row m x) c
+  equal m x c l i = drawn (one_cell m) n c l ∙ equal_cell m x c i ∙ sym (drawn (two_cell m x) n c l)
 
   abbrev Fine : Row → Row → Type 0
   Fine r s = (d : Dep) → In d ds → PairObeys r s d
@@ -135,24 +135,24 @@ module _ (n : ℕ) (ds : List Dep) (small : Small n ds) where
   all_fine : (m : ℕ) (xs : List Cols) (r s : Row) → In r (rows m xs) → In s (rows m xs) → Fine r s
   all_fine m [] = λ r s h k. absurd h
   all_fine m (x ∷ xs) =
-      grown (one-row m) (two-row m x ∷ rows (suc m) xs)
+      grown (one_row m) (two_row m x ∷ rows (suc m) xs)
       (λ s h.
       elim h [
-        | inl e ↦ subst (λ v. Fine (one-row m) v) e (closed_pair n ds small (closure ds x) (closure_closed ds x) (one-row m) (two-row m x) (apart m x) (equal m x))
-        | inr k ↦ across (suc (suc (suc (m + m)))) (one-row m) s (λ c l. subst (Lower (suc (suc (suc (m + m)))) c) (sym (drawn (one_cell m) n c l)) (one_lower m c)) (far m xs s k)
+        | inl e ↦ subst (λ v. Fine (one_row m) v) e (closed_pair n ds small (closure ds x) (closure_closed ds x) (one_row m) (two_row m x) (apart m x) (equal m x))
+        | inr k ↦ across (suc (suc (suc (m + m)))) (one_row m) s (λ c l. subst (Lower (suc (suc (suc (m + m)))) c) (sym (drawn (one_cell m) n c l)) (one_lower m c)) (far m xs s k)
       ])
-      (grown (two-row m x) (rows (suc m) xs)
-      (λ s k. across (suc (suc (suc (m + m)))) (two-row m x) s (λ c l. subst (Lower (suc (suc (suc (m + m)))) c) (sym (drawn (two-cell m x) n c l)) (two_lower m x c)) (far m xs s k))
+      (grown (two_row m x) (rows (suc m) xs)
+      (λ s k. across (suc (suc (suc (m + m)))) (two_row m x) s (λ c l. subst (Lower (suc (suc (suc (m + m)))) c) (sym (drawn (two_cell m x) n c l)) (two_lower m x c)) (far m xs s k))
       (all_fine (suc m) xs))
     where
       far : (m : ℕ) (xs : List Cols) (s : Row) → In s (rows (suc m) xs) → (c : ℕ) → c < n → Upper (suc (suc (suc (m + m)))) c (get_or s c 0)
       far m xs s k c l = upper_less (suc (suc (suc (m + m)))) (suc (suc m + suc m)) c (get_or s c 0) (omega arith) (rows_upper (suc m) xs s k c l)
 
-  rows_pair : (m : ℕ) (xs : List Cols) (x : Cols) → In x xs → (k : ℕ) × In (one-row k) (rows m xs) × In (two-row k x) (rows m xs)
+  rows_pair : (m : ℕ) (xs : List Cols) (x : Cols) → In x xs → (k : ℕ) × In (one_row k) (rows m xs) × In (two_row k x) (rows m xs)
   rows_pair m [] x h = absurd h
   rows_pair m (y ∷ ys) x h =
       elim h [
-        | inl e ↦ (m, inl refl, inr (inl (ap (two-row m) e)))
+        | inl e ↦ (m, inl refl, inr (inl (ap (two_row m) e)))
         | inr j ↦ let r = rows_pair (suc m) ys x j in (r.0, inr (inr r.1), inr (inr r.2))
       ]
 
@@ -171,9 +171,9 @@ module _ (n : ℕ) (ds : List Dep) (small : Small n ds) where
       closure_implied ds d (λ c i.
       closure_monotone ds y.0 d.left y.2 c
       (apart p.0 y.0 c (below n c (right c i))
-      (agree_same d.right (one-row p.0) (two-row p.0 y.0)
-      (obeys_pair table d o (one-row p.0) (two-row p.0 y.0) p.1 p.2
-      (same_agree d.left (one-row p.0) (two-row p.0 y.0) (λ x j.
+      (agree_same d.right (one_row p.0) (two_row p.0 y.0)
+      (obeys_pair table d o (one_row p.0) (two_row p.0 y.0) p.1 p.2
+      (same_agree d.left (one_row p.0) (two_row p.0 y.0) (λ x j.
       equal p.0 y.0 x (below n x (left x j)) (closure_grows ds y.0 x (y.3 x j)))))
       c i)))
 

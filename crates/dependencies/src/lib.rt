@@ -2,6 +2,8 @@
 // A rule is a functional dependency: rows that are equal in all its left columns are equal in all its right ones.
 // Rules are read once, from lent numbers or from a file's bytes, and refused by the first number that applies; closures and
 // implications are then asked of them. Nothing here allocates.
+#![tactic(auto)]
+
 mod bytes;
 mod closing;
 mod held;

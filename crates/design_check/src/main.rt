@@ -1,5 +1,7 @@
 // Reads the rules of a table and a design that somebody made for them from standard input, and prints `a design`, or the
 // refusal: of the rules, or 6 at the first condition that the design misses.
+#![tactic(auto)]
+
 use anyhow::anyhow;
 use dependencies::{RuleSet, rule_row, rules_from_bytes};
 use std::env;

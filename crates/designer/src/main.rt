@@ -1,5 +1,7 @@
 // Reads the rules of a table from standard input and prints a design for them, a line a part, and then the line of the keys;
 // or the refusal.
+#![tactic(auto)]
+
 use anyhow::anyhow;
 use columns::ColumnSet;
 use dependencies::{RuleSet, rules_from_bytes};

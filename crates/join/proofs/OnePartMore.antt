@@ -265,12 +265,12 @@ module _ (ps : List Part) (hs : List (List Held)) (rows : List Row) (P : Part) (
         in_each rows f r (merged p L r) j.1 (in_first S p h r (length h) i (merged p L r) l w),
         λ c o. elim (cases_Bool (has p c)) [
           | inl b ↦ merged_in r L j.1 c b ∙ sym (agree_same p q L a c (has_in p c b))
-          | inr b ↦ merged_out r L j.1 c b ∙ j.2 c (in-before c b o)
+          | inr b ↦ merged_out r L j.1 c b ∙ j.2 c (in_before c b o)
         ],
       )
     where
-      in-before : (c : ℕ) → has p c ≡ false → covered ps' c ≡ true → covered ps c ≡ true
-      in-before c b o = elim (or_cases (covered ps c) (has p c) (sym (covered_push P ps c) ∙ o)) [ inl k ↦ k | inr k ↦ absurd (both_ways (has p c) b k) ]
+      in_before : (c : ℕ) → has p c ≡ false → covered ps' c ≡ true → covered ps c ≡ true
+      in_before c b o = elim (or_cases (covered ps c) (has p c) (sym (covered_push P ps c) ∙ o)) [ inl k ↦ k | inr k ↦ absurd (both_ways (has p c) b k) ]
 
   turn_first : (r : Row) → In r rows → (k : ℕ) → InTurn ps' hs' (join_first S p h r k)
   unfolding join_first

@@ -54,11 +54,11 @@ yes_never_full (refused k p ∷ ts) y = absurd (false≢true y.0)
 yes_whole : (n room : ℕ) (ps : List Part) (hs : List (List Held)) (t : List Row) → Yes (taken_of (day_told n room ps hs (inserts t))) → WholeRows n (inserts t)
 unfolding taken_of day_told inserts
 yes_whole n room ps hs [] y = tt
-yes_whole n room ps hs (r ∷ t) y = (put_whole n room ps hs r (is-done (put_told n room ps hs r) y.0), yes_whole n room ps (deed_after n room ps hs (insert r)) t y.1)
+yes_whole n room ps hs (r ∷ t) y = (put_whole n room ps hs r (done_so (put_told n room ps hs r) y.0), yes_whole n room ps (deed_after n room ps hs (insert r)) t y.1)
   where
-    is-done : (t : Told) → is_done t ≡ true → t ≡ done
-    is-done done e = refl
-    is-done (refused k p) e = absurd (false≢true e)
+    done_so : (t : Told) → is_done t ≡ true → t ≡ done
+    done_so done e = refl
+    done_so (refused k p) e = absurd (false≢true e)
 
 whole_rows : (n : ℕ) (t : List Row) → WholeTable n t → WholeRows n (inserts t)
 unfolding inserts

@@ -86,7 +86,7 @@ module _ (n : ℕ) (d xs g : List ℕ) where
   rest i = rows_cut n (count - i) (drop (i * n) xs)
 
   -- the first i rows are taken, and the others decide
-  pub record Laid-so-far (i : ℕ) (g₁ : List ℕ) : Type 0 where
+  pub record LaidSoFar (i : ℕ) (g₁ : List ℕ) : Type 0 where
     pub long : length g₁ ≡ length g
     pub put : held_of n d g₁ ≡ put_all PS (held_of n d g) (rows_cut n i xs)
     pub clean : CleanCells n d g → CleanCells n d g₁
@@ -101,7 +101,7 @@ module _ (n : ℕ) (d xs g : List ℕ) where
       let b : 0 * n ≡ 0 = omega arith in
       ap₂ (λ (k : ℕ) (j : ℕ). rows_cut n k (drop j xs)) a b
 
-  pub laid_start : Laid-so-far 0 g
+  pub laid_start : LaidSoFar 0 g
   unfolding put_all rows_cut
   laid_start =
       record {
@@ -134,18 +134,18 @@ module _ (n : ℕ) (d xs g : List ℕ) where
   unfolding inserts day_end
   end_turn H r R = refl
 
-  module _ (i : ℕ) (g₁ row : List ℕ) (l : i < count) (w : Laid-so-far i g₁) (is : row ≡ row_at i) (o : opened_told n d ≡ done) where
+  module _ (i : ℕ) (g₁ row : List ℕ) (l : i < count) (w : LaidSoFar i g₁) (is : row ≡ row_at i) (o : opened_told n d ≡ done) where
     abbrev H : List (List Held)
     H = held_of n d g₁
 
-    room-here : room_of n d g₁ ≡ room
-    room-here = same_room n d g g₁ w.long
+    room_here : room_of n d g₁ ≡ room
+    room_here = same_room n d g g₁ w.long
 
     -- what is told of the row, in the room of the start
     here : (t : Told) → t ≡ or_else (opened_told n d) (put_told n (room_of n d g₁) PS H row) → put_told n room PS H (row_at i) ≡ t
-    here t e = sym (e ∙ ap (λ (z : Told). or_else z (put_told n (room_of n d g₁) PS H row)) o ∙ ap₂ (λ (k : ℕ) (z : Row). put_told n k PS H z) room-here is)
+    here t e = sym (e ∙ ap (λ (z : Told). or_else z (put_told n (room_of n d g₁) PS H row)) o ∙ ap₂ (λ (k : ℕ) (z : Row). put_told n k PS H z) room_here is)
 
-    pub laid_next : (g₂ : List ℕ) → length g₂ ≡ length g₁ → done ≡ or_else (opened_told n d) (put_told n (room_of n d g₁) PS H row) → NowHolds n d g₁ g₂ (all_more PS H row) → Laid-so-far (i + 1) g₂
+    pub laid_next : (g₂ : List ℕ) → length g₂ ≡ length g₁ → done ≡ or_else (opened_told n d) (put_told n (room_of n d g₁) PS H row) → NowHolds n d g₁ g₂ (all_more PS H row) → LaidSoFar (i + 1) g₂
     laid_next g₂ long t after =
         let e : put_told n room PS H (row_at i) ≡ done = here done t in
         let size : length (row_at i) ≡ n = put_whole n room PS H (row_at i) e in
@@ -156,7 +156,7 @@ module _ (n : ℕ) (d xs g : List ℕ) where
           put = held' ∙ ap (λ (z : List (List Held)). all_more PS z (row_at i)) w.put ∙ sym (put_push PS (held_of n d g) (rows_cut n i xs) (row_at i))
               ∙ ap (λ (z : List Row). put_all PS (held_of n d g) z) (sym (cut_push n i xs));
           clean = λ c. after.clean (w.clean c);
-          past = subst (λ (q : ℕ). drop (get_or d 0 0 * (q * (n + 1))) g₂ ≡ drop (get_or d 0 0 * (q * (n + 1))) g₁) room-here after.past ∙ w.past;
+          past = subst (λ (q : ℕ). drop (get_or d 0 0 * (q * (n + 1))) g₂ ≡ drop (get_or d 0 0 * (q * (n + 1))) g₁) room_here after.past ∙ w.past;
           whole = fits size;
           tells = sym (ap (λ (z : List Row). first_refusal i (day_told n room PS H (inserts z))) (rest_turn i l) ∙ told_turn i H (row_at i) (rest (i + 1))
               ∙ ap₂ (λ (z : Told) (k : List (List Held)). first_refusal i (z ∷ day_told n room PS k (inserts (rest (i + 1))))) e then
@@ -172,14 +172,14 @@ module _ (n : ℕ) (d xs g : List ℕ) where
           | inr s ↦ let a = length-drop (i * n) xs in let b = next_row i n in let c = w.whole in omega arith
         ]
 
-    pub laid-refused : (e : Refusal) → told e ≡ or_else (opened_told n d) (put_told n (room_of n d g₁) PS H row) → Some (i, told e) ≡ first_refusal 0 (rows_told n d g (rows_in n xs))
-    laid-refused e t =
+    pub laid_refused : (e : Refusal) → told e ≡ or_else (opened_told n d) (put_told n (room_of n d g₁) PS H row) → Some (i, told e) ≡ first_refusal 0 (rows_told n d g (rows_in n xs))
+    laid_refused e t =
         sym (sym w.tells ∙ ap (λ (z : List Row). first_refusal i (day_told n room PS H (inserts z))) (rest_turn i l) ∙ told_turn i H (row_at i) (rest (i + 1))
         ∙ ap (λ (z : Told). first_refusal i (z ∷ day_told n room PS (pick (is_done (put_told n room PS H (row_at i))) (all_more PS H (row_at i)) H) (inserts (rest (i + 1))))) (here (told e) t)
         ∙ refusal_first i e (day_told n room PS (pick (is_done (put_told n room PS H (row_at i))) (all_more PS H (row_at i)) H) (inserts (rest (i + 1)))))
 
   -- all rows are taken
-  pub laid_all : (i : ℕ) (g₁ : List ℕ) → count ≤ i → i ≤ count → Laid-so-far i g₁ → LaySays n d g g₁ xs (Ok i)
+  pub laid_all : (i : ℕ) (g₁ : List ℕ) → count ≤ i → i ≤ count → LaidSoFar i g₁ → LaySays n d g g₁ xs (Ok i)
   unfolding rows_cut inserts day_told day_end first_refusal
   laid_all i g₁ l m w =
       let z : count - i ≡ 0 = omega arith in
@@ -194,19 +194,19 @@ module _ (n : ℕ) (d xs g : List ℕ) where
       }
 
   -- a row is refused, and those before it were taken out again
-  pub laid_back : (i : ℕ) (g₁ g₂ : List ℕ) → opened_told n d ≡ done → Laid-so-far i g₁ → TakenBack n d xs i 0 g₁ g₂ → AsBefore n d g g₂
+  pub laid_back : (i : ℕ) (g₁ g₂ : List ℕ) → opened_told n d ≡ done → LaidSoFar i g₁ → TakenBack n d xs i 0 g₁ g₂ → AsBefore n d g g₂
   unfolding put_all rows_cut
   laid_back i g₁ g₂ o w b =
       let held' : held_of n d g₂ ≡ held_of n d g = b.held (held_of n d g) o (cells_sound n d g) w.put in
-      let room-here : room_of n d g₁ ≡ room = same_room n d g g₁ w.long in
+      let room_here : room_of n d g₁ ≡ room = same_room n d g g₁ w.long in
       let room-then : room_of n d g₂ ≡ room = same_room n d g g₂ (b.long ∙ w.long) in
       let past' : drop (get_or d 0 0 * (room * (n + 1))) g₂ ≡ drop (get_or d 0 0 * (room * (n + 1))) g
-      = subst (λ (q : ℕ). drop (get_or d 0 0 * (q * (n + 1))) g₂ ≡ drop (get_or d 0 0 * (q * (n + 1))) g₁) room-here b.past ∙ w.past in
-      record { held = held'; past = past'; letter = λ c. same-cells g₂ room-then held' past' c (b.clean (w.clean c)) }
+      = subst (λ (q : ℕ). drop (get_or d 0 0 * (q * (n + 1))) g₂ ≡ drop (get_or d 0 0 * (q * (n + 1))) g₁) room_here b.past ∙ w.past in
+      record { held = held'; past = past'; letter = λ c. same_cells g₂ room-then held' past' c (b.clean (w.clean c)) }
     where
-      same-cells : (g₂ : List ℕ) → room_of n d g₂ ≡ room → held_of n d g₂ ≡ held_of n d g → drop (get_or d 0 0 * (room * (n + 1))) g₂ ≡ drop (get_or d 0 0 * (room * (n + 1))) g
+      same_cells : (g₂ : List ℕ) → room_of n d g₂ ≡ room → held_of n d g₂ ≡ held_of n d g → drop (get_or d 0 0 * (room * (n + 1))) g₂ ≡ drop (get_or d 0 0 * (room * (n + 1))) g
           → CleanCells n d g → CleanCells n d g₂ → g₂ ≡ g
-      same-cells g₂ r h p c c₂ =
+      same_cells g₂ r h p c c₂ =
           let S : ℕ = get_or d 0 0 * (room * (n + 1)) in
           let a : take S g ≡ cells_written n room (held_of n d g) = letter n d g c in
           let b : take S g₂ ≡ cells_written n room (held_of n d g₂) = subst (λ (q : ℕ). take (get_or d 0 0 * (q * (n + 1))) g₂ ≡ cells_written n q (held_of n d g₂)) r (letter n d g₂ c₂) in

@@ -162,30 +162,30 @@ module _ (n : ℕ) (d xs : List ℕ) (count k : ℕ) (g g₁ g₂ row : List ℕ
     abbrev H : List (List Held)
     H = put_all PS hs (rows_cut n k xs)
 
-    now-held : held_of n d g₁ ≡ all_more PS H row
-    now-held =
+    now_held : held_of n d g₁ ≡ all_more PS H row
+    now_held =
         w.held hs o s e ∙ ap (λ (z : List Row). put_all PS hs z) (cut_push n k xs) ∙ put_push PS hs (rows_cut n k xs) (take n (drop (k * n) xs))
         ∙ ap (λ (z : Row). all_more PS H z) (sym is)
 
-    H-sound : SoundLists PS H
-    H-sound = put_sound PS hs (rows_cut n k xs) s
+    lists_sound_so : SoundLists PS H
+    lists_sound_so = put_sound PS hs (rows_cut n k xs) s
 
-    is-done : outcome r ≡ done
-    is-done =
+    done_so : outcome r ≡ done
+    done_so =
         tells ∙ ap (λ (t : Told). or_else t (take_told n PS (held_of n d g₁) row)) o
         ∙ ap (λ (b : Bool). pick b (pick (all_hold PS (held_of n d g₁) row) done (refused 10 0)) (refused 7 (length row))) (eq-eqb (length row) n row_long)
-        ∙ ap (λ (b : Bool). pick b done (refused 10 0)) (ap (λ (z : List (List Held)). all_hold PS z row) now-held ∙ all_held_more PS H row H-sound)
+        ∙ ap (λ (b : Bool). pick b done (refused 10 0)) (ap (λ (z : List (List Held)). all_hold PS z row) now_held ∙ all_held_more PS H row lists_sound_so)
 
-    then-held : held_of n d g₂ ≡ H
-    then-held =
-        (after_done n d g₁ g₂ (all_less PS (held_of n d g₁) row) r is-done after).held ∙ ap (λ (z : List (List Held)). all_less PS z row) now-held ∙ all_undone PS H row H-sound
+    then_held : held_of n d g₂ ≡ H
+    then_held =
+        (after_done n d g₁ g₂ (all_less PS (held_of n d g₁) row) r done_so after).held ∙ ap (λ (z : List (List Held)). all_less PS z row) now_held ∙ all_undone PS H row lists_sound_so
 
   pub back_next : TakenBack n d xs count k g g₂
   back_next =
       let room : room_of n d g₁ ≡ room_of n d g = same_room n d g g₁ w.long in
       record {
         long = long ∙ w.long;
-        held = then-held;
+        held = then_held;
         clean = λ c. after_clean n d g₁ g₂ (all_less PS (held_of n d g₁) row) r after (w.clean c);
         past = subst (λ (q : ℕ). drop (get_or d 0 0 * (q * (n + 1))) g₂ ≡ drop (get_or d 0 0 * (q * (n + 1))) g₁) room (after_past n d g₁ g₂ (all_less PS (held_of n d g₁) row) r after) ∙ w.past;
       }

@@ -83,8 +83,8 @@ module _ (ds : List Dep) (b x y : Branch) (d : Divided b x y) where
     with_first k j h i =
         earlier ds (cols b.target) (cols b.chosen) (cols x.chosen) (cols x.free) d.column low high d.chosen not_yet k j (has_it k h) (lacks_it j i)
 
-    pub first-with : (k : ColumnSet) → First ds x (Some k) → First ds b (Some k)
-    first-with k a = (
+    pub first_with : (k : ColumnSet) → First ds x (Some k) → First ds b (Some k)
+    first_with k a = (
       from_with (cols k) a.0,
       λ j h. elim (in_half j h) [ inl q ↦ a.1 j q | inr q ↦ not_both (cols k) j (with_first (cols k) j a.0 q) ],
     )

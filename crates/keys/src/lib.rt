@@ -1,6 +1,8 @@
 // Keys of a set of columns: sets inside it that fix it, and of which no smaller part does.
 // One walk over candidate sets, in the order of sets, finds the first key or writes all of them; nothing is sorted, and nothing
 // allocates.
+#![tactic(auto)]
+
 mod branch;
 mod branching;
 mod first;

@@ -1,5 +1,7 @@
 // Lists the keys of two tables of 16 columns, once for each byte that it reads: `p` for the pairs, `e` for the eights.
 // It writes how many keys it listed, and a mix of them that depends on each. bench/keys/run times it.
+#![tactic(auto)]
+
 use keys::candidate_keys;
 use std::io;
 use std::io::Read;

@@ -1,5 +1,7 @@
 // The worked example: organs in parishes, parishes in dioceses, and the days on which a tuner is at an organ.
 // Each fact is a theorem about the definitions, carried by a function whose contract is the statement.
+#![tactic(auto)]
+
 ghost use Rattle.organs.specs.Organs.{OrganClosures, TunerIsFree, OrganCover, OrganKeys, OrganDesign, OrganMisses};
 
 // The closures of 1, of 0, and of 0 and 5.

@@ -172,18 +172,18 @@ module _ (one : Cols → Row → List Held → List Held) (n room : ℕ) (d e : 
   fits_all = subst (λ (z : ℕ). K * (z * (n + 1)) ≤ length e) (sym is) (shares_fit (length e) K (n + 1))
 
   module _ (p : ℕ) (rest xs : List ℕ) (l : p < K) (w : SoFar one n room d e r p rest xs) (long : length xs ≡ length e) where
-    pub part-stands-here : whole_part n rest ≡ true
-    part-stands-here = (and_parts (whole_part n rest) _ (sym (formed_more n (K - p) rest (omega arith)) ∙ w.sound)).0
+    pub part_stands_here : whole_part n rest ≡ true
+    part_stands_here = (and_parts (whole_part n rest) _ (sym (formed_more n (K - p) rest (omega arith)) ∙ w.sound)).0
 
-    pub share-fits : p * S + S ≤ length xs
-    share-fits = let a = row_fits p K S l in let b = fits_all in omega arith
+    pub share_fits : p * S + S ≤ length xs
+    share_fits = let a = row_fits p K S l in let b = fits_all in omega arith
 
     turn : get_or PS p no_part ∷ drop (p + 1) PS ≡ part_in n rest ∷ parts_in n (K - p - 1) (drop (2 + 2 * get_or rest 1 0) rest)
     turn = sym (drop_more PS p no_part (omega (arith, parts_length n K (drop 1 d)))) ∙ sym w.parts ∙ parts_more n (K - p) rest (omega arith)
 
     -- the columns of the part at the front
-    pub cols-here : (get_or PS p no_part).cols ≡ set_in 0 n (get_or rest 0 0)
-    cols-here = ap (λ (z : Part). z.cols) (same_head turn)
+    pub cols_here : (get_or PS p no_part).cols ≡ set_in 0 n (get_or rest 0 0)
+    cols_here = ap (λ (z : Part). z.cols) (same_head turn)
 
     module _ (size at : ℕ) (es : size ≡ S) (ea : at ≡ p * size) where
       begin : at ≡ p * S
@@ -193,25 +193,25 @@ module _ (one : Cols → Row → List Held → List Held) (n room : ℕ) (d e : 
       lent_is : take (at + size - at) (drop at xs) ≡ take S (drop (p * S) e)
       lent_is = ap₂ (λ (a : ℕ) (z : List ℕ). take a z) (omega (arith, es)) (ap (λ (z : ℕ). drop z xs) begin ∙ w.same)
 
-      pub lent-long : length (take (at + size - at) (drop at xs)) ≡ room * (n + 1)
-      lent-long =
-          let h = share-fits in
+      pub lent_long : length (take (at + size - at) (drop at xs)) ≡ room * (n + 1)
+      lent_long =
+          let h = share_fits in
           let b = begin in
           length-take-le (at + size - at) (drop at xs) (simp length-drop (omega (arith, es))) ∙ omega (arith, es)
 
-      pub held-lent : (set : Cols) → set ≡ set_in 0 n (get_or rest 0 0) → all_hold PS (held_of n d e) r ≡ true → holds set r (held_in n room (take (at + size - at) (drop at xs))) ≡ true
-      held-lent set q f =
+      pub held_lent : (set : Cols) → set ≡ set_in 0 n (get_or rest 0 0) → all_hold PS (held_of n d e) r ≡ true → holds set r (held_in n room (take (at + size - at) (drop at xs))) ≡ true
+      held_lent set q f =
           let hs : List (List Held) = all_held n room K e in
           let f' : all_hold PS hs r ≡ true = ap (λ (z : ℕ). all_hold PS (all_held n z K e) r) is ∙ f in
-          ap₂ (λ (c : Cols) (h : List Held). holds c r h) (q ∙ sym cols-here) (ap (λ (z : List ℕ). held_in n room z) lent_is ∙ sym (held_part n room K p e l))
+          ap₂ (λ (c : Cols) (h : List Held). holds c r h) (q ∙ sym cols_here) (ap (λ (z : List ℕ). held_in n room z) lent_is ∙ sym (held_part n room K p e l))
           ∙ hold_at PS hs r p f' (omega (arith, parts_length n K (drop 1 d))) (held_count n room K e ∙ sym (parts_length n K (drop 1 d)))
 
-      pub room-lent : (set : Cols) → set ≡ set_in 0 n (get_or rest 0 0) → first_full_part 0 (room_of n d e) PS (held_of n d e) r ≡ None
+      pub room_lent : (set : Cols) → set ≡ set_in 0 n (get_or rest 0 0) → first_full_part 0 (room_of n d e) PS (held_of n d e) r ≡ None
           → full room set r (held_in n room (take (at + size - at) (drop at xs))) ≡ false
-      room-lent set q f =
+      room_lent set q f =
           let hs : List (List Held) = all_held n room K e in
           let f' : first_full_part 0 room PS hs r ≡ None = ap (λ (z : ℕ). first_full_part 0 z PS (all_held n z K e) r) is ∙ f in
-          ap₂ (λ (c : Cols) (h : List Held). full room c r h) (q ∙ sym cols-here) (ap (λ (z : List ℕ). held_in n room z) lent_is ∙ sym (held_part n room K p e l))
+          ap₂ (λ (c : Cols) (h : List Held). full room c r h) (q ∙ sym cols_here) (ap (λ (z : List ℕ). held_in n room z) lent_is ∙ sym (held_part n room K p e l))
           ∙ none_full 0 room PS hs r p f' (omega (arith, parts_length n K (drop 1 d))) (held_count n room K e ∙ sym (parts_length n K (drop 1 d)))
 
       pub so_far_next : (set : Cols) (ys next : List ℕ) → set ≡ set_in 0 n (get_or rest 0 0) → next ≡ drop (2 + 2 * get_or rest 1 0) rest
@@ -221,11 +221,11 @@ module _ (one : Cols → Row → List Held → List Held) (n room : ℕ) (d e : 
           → SoFar one n room d e r (p + 1) next (put_mid at (at + size - at) xs ys)
       so_far_next set ys next q f len h c =
           let here' : Changed one n room PS e r p ys = (
-            h ∙ ap₂ (λ (a : Cols) (z : List ℕ). one a r (held_in n room z)) (q ∙ sym cols-here) lent_is,
+            h ∙ ap₂ (λ (a : Cols) (z : List ℕ). one a r (held_in n room z)) (q ∙ sym cols_here) lent_is,
             λ b. c (subst (λ (z : List ℕ). Clean n room z) (sym lent_is) b),
           ) in
           let W : ℕ → List ℕ → Type 0 = Changed one n room PS e r in
-          let s = share_written W xs ys e p S share-fits w.changed w.same (len ∙ lent-long) here' in
+          let s = share_written W xs ys e p S share_fits w.changed w.same (len ∙ lent_long) here' in
           let m : K - p - 1 ≡ K - (p + 1) = omega arith in
           let z : put_mid at (at + size - at) xs ys ≡ put_mid (p * S) (p * S + S - p * S) xs ys = ap₂ (λ (a b : ℕ). put_mid a (a + b - a) xs ys) begin es in
           record {

@@ -64,8 +64,8 @@ module _ (n room k p size : ℕ) (rest left next behind : List ℕ) (l : p < k) 
     back : behind ≡ drop (room * (n + 1)) left
     back = eb ∙ take_rest left size ∙ ap (λ (z : ℕ). drop z left) is
 
-    pub left-next : Left n room (k - (p + 1)) next behind
-    left-next =
+    pub left_next : Left n room (k - (p + 1)) next behind
+    left_next =
         let m : k - p - 1 ≡ k - (p + 1) = omega arith in
         let f = (and_parts (whole_part n rest) (formed n (k - p - 1) (drop (2 + 2 * get_or rest 1 0) rest)) (sym (formed_more n (k - p) rest (omega arith)) ∙ w.sound)).1 in
         record {
@@ -73,13 +73,13 @@ module _ (n room k p size : ℕ) (rest left next behind : List ℕ) (l : p < k) 
           long = let a = w.long in let b = one_less in let c = ap length back in let d = length-drop (room * (n + 1)) left in omega arith;
         }
 
-    pub parts-turn : parts_in n (k - p) rest ≡ part_in n rest ∷ parts_in n (k - (p + 1)) next
-    parts-turn =
+    pub parts_turn : parts_in n (k - p) rest ≡ part_in n rest ∷ parts_in n (k - (p + 1)) next
+    parts_turn =
         let m : k - p - 1 ≡ k - (p + 1) = omega arith in
         parts_more n (k - p) rest (omega arith) ∙ ap₂ (λ (a : ℕ) (z : List ℕ). part_in n rest ∷ parts_in n a z) m (sym en)
 
-    cells-turn : all_held n room (k - p) left ≡ held_in n room (take (size - 0) left) ∷ all_held n room (k - (p + 1)) behind
-    cells-turn =
+    cells_turn : all_held n room (k - p) left ≡ held_in n room (take (size - 0) left) ∷ all_held n room (k - (p + 1)) behind
+    cells_turn =
         let m : k - p - 1 ≡ k - (p + 1) = omega arith in
         let s : room * (n + 1) ≡ size - 0 = omega arith in
         cells_more n room (k - p) left (omega arith)
@@ -89,37 +89,37 @@ module _ (n room k p size : ℕ) (rest left next behind : List ℕ) (l : p < k) 
       abbrev here : List Held
       here = held_in n room (take (size - 0) left)
 
-      hold-turn : all_hold (parts_in n (k - p) rest) (all_held n room (k - p) left) r
+      hold_turn : all_hold (parts_in n (k - p) rest) (all_held n room (k - p) left) r
           ≡ (holds (set_in 0 n (get_or rest 0 0)) r here && all_hold (parts_in n (k - (p + 1)) next) (all_held n room (k - (p + 1)) behind) r)
       unfolding all_hold
-      hold-turn = ap₂ (λ (a : List Part) (b : List (List Held)). all_hold a b r) parts-turn cells-turn
+      hold_turn = ap₂ (λ (a : List Part) (b : List (List Held)). all_hold a b r) parts_turn cells_turn
 
-      full-turn : first_full_part p room (parts_in n (k - p) rest) (all_held n room (k - p) left) r
+      full_turn : first_full_part p room (parts_in n (k - p) rest) (all_held n room (k - p) left) r
           ≡ pick (full room (set_in 0 n (get_or rest 0 0)) r here) (Some p) (first_full_part (p + 1) room (parts_in n (k - (p + 1)) next) (all_held n room (k - (p + 1)) behind) r)
       unfolding first_full_part
-      full-turn = ap₂ (λ (a : List Part) (b : List (List Held)). first_full_part p room a b r) parts-turn cells-turn
+      full_turn = ap₂ (λ (a : List Part) (b : List (List Held)). first_full_part p room a b r) parts_turn cells_turn
 
-      broken-turn : first_broken p (parts_in n (k - p) rest) (all_held n room (k - p) left) r
+      broken_turn : first_broken p (parts_in n (k - p) rest) (all_held n room (k - p) left) r
           ≡ first_of p (broken_in 0 (rules_in n (get_or rest 1 0) (drop 2 rest)) r (looks_of here)) (first_broken (p + 1) (parts_in n (k - (p + 1)) next) (all_held n room (k - (p + 1)) behind) r)
       unfolding first_broken
-      broken-turn = ap₂ (λ (a : List Part) (b : List (List Held)). first_broken p a b r) parts-turn cells-turn
+      broken_turn = ap₂ (λ (a : List Part) (b : List (List Held)). first_broken p a b r) parts_turn cells_turn
 
       module _ (set : Cols) (es : set ≡ set_in 0 n (get_or rest 0 0)) where
-        pub hold-next : (b : Bool) → all_hold (parts_in n (k - p) rest) (all_held n room (k - p) left) r ≡ b → holds set r here ≡ true
+        pub hold_next : (b : Bool) → all_hold (parts_in n (k - p) rest) (all_held n room (k - p) left) r ≡ b → holds set r here ≡ true
             → all_hold (parts_in n (k - (p + 1)) next) (all_held n room (k - (p + 1)) behind) r ≡ b
-        hold-next b inv h =
-            sym (hold-turn ∙ ap (λ (z : Bool). z && all_hold (parts_in n (k - (p + 1)) next) (all_held n room (k - (p + 1)) behind) r) (ap (λ (s : Cols). holds s r here) (sym es) ∙ h)) ∙ inv
+        hold_next b inv h =
+            sym (hold_turn ∙ ap (λ (z : Bool). z && all_hold (parts_in n (k - (p + 1)) next) (all_held n room (k - (p + 1)) behind) r) (ap (λ (s : Cols). holds s r here) (sym es) ∙ h)) ∙ inv
 
-        pub full-next : (b : Option ℕ) → first_full_part p room (parts_in n (k - p) rest) (all_held n room (k - p) left) r ≡ b → full room set r here ≡ false
+        pub full_next : (b : Option ℕ) → first_full_part p room (parts_in n (k - p) rest) (all_held n room (k - p) left) r ≡ b → full room set r here ≡ false
             → first_full_part (p + 1) room (parts_in n (k - (p + 1)) next) (all_held n room (k - (p + 1)) behind) r ≡ b
-        full-next b inv h =
-            sym (full-turn ∙ ap (λ (z : Bool). pick z (Some p) (first_full_part (p + 1) room (parts_in n (k - (p + 1)) next) (all_held n room (k - (p + 1)) behind) r)) (ap (λ (s : Cols). full room s r here) (sym es) ∙ h)) ∙ inv
+        full_next b inv h =
+            sym (full_turn ∙ ap (λ (z : Bool). pick z (Some p) (first_full_part (p + 1) room (parts_in n (k - (p + 1)) next) (all_held n room (k - (p + 1)) behind) r)) (ap (λ (s : Cols). full room s r here) (sym es) ∙ h)) ∙ inv
 
-      pub broken-next : (b : Option (ℕ × ℕ)) → first_broken p (parts_in n (k - p) rest) (all_held n room (k - p) left) r ≡ b
+      pub broken_next : (b : Option (ℕ × ℕ)) → first_broken p (parts_in n (k - p) rest) (all_held n room (k - p) left) r ≡ b
           → broken_in 0 (rules_in n (get_or rest 1 0) (drop 2 rest)) r (looks_of here) ≡ None
           → first_broken (p + 1) (parts_in n (k - (p + 1)) next) (all_held n room (k - (p + 1)) behind) r ≡ b
-      broken-next b inv h =
-          sym (broken-turn ∙ ap (λ (z : Option ℕ). first_of p z (first_broken (p + 1) (parts_in n (k - (p + 1)) next) (all_held n room (k - (p + 1)) behind) r)) h) ∙ inv
+      broken_next b inv h =
+          sym (broken_turn ∙ ap (λ (z : Option ℕ). first_of p z (first_broken (p + 1) (parts_in n (k - (p + 1)) next) (all_held n room (k - (p + 1)) behind) r)) h) ∙ inv
 
 -- the walk ends within a part
 module _ (n room k p size : ℕ) (rest left : List ℕ) (l : p < k) (w : Left n room (k - p) rest left) (is : size ≡ room * (n + 1)) (r : Row) where
@@ -135,18 +135,18 @@ module _ (n room k p size : ℕ) (rest left : List ℕ) (l : p < k) (w : Left n 
   pub hold_stop : (set : Cols) → set ≡ set_in 0 n (get_or rest 0 0) → (b : Bool) → all_hold (parts_in n (k - p) rest) (all_held n room (k - p) left) r ≡ b
       → holds set r found ≡ false → false ≡ b
   hold_stop set es b inv h =
-      sym (sym inv ∙ hold-turn n room k p size rest left rest' left' l w is refl refl r ∙ and_left _ _ (ap (λ (s : Cols). holds s r found) (sym es) ∙ h))
+      sym (sym inv ∙ hold_turn n room k p size rest left rest' left' l w is refl refl r ∙ and_left _ _ (ap (λ (s : Cols). holds s r found) (sym es) ∙ h))
 
   pub full_stop : (set : Cols) → set ≡ set_in 0 n (get_or rest 0 0) → (b : Option ℕ) → first_full_part p room (parts_in n (k - p) rest) (all_held n room (k - p) left) r ≡ b
       → full room set r found ≡ true → Some p ≡ b
   full_stop set es b inv h =
-      sym (sym inv ∙ full-turn n room k p size rest left rest' left' l w is refl refl r
+      sym (sym inv ∙ full_turn n room k p size rest left rest' left' l w is refl refl r
       ∙ ap (λ (z : Bool). pick z (Some p) (first_full_part (p + 1) room (parts_in n (k - (p + 1)) rest') (all_held n room (k - (p + 1)) left') r)) (ap (λ (s : Cols). full room s r found) (sym es) ∙ h))
 
   pub broken_stop : (b : Option (ℕ × ℕ)) (q : ℕ) → first_broken p (parts_in n (k - p) rest) (all_held n room (k - p) left) r ≡ b
       → broken_in 0 (rules_in n (get_or rest 1 0) (drop 2 rest)) r (looks_of found) ≡ Some q → Some (p, q) ≡ b
   broken_stop b q inv h =
-      sym (sym inv ∙ broken-turn n room k p size rest left rest' left' l w is refl refl r
+      sym (sym inv ∙ broken_turn n room k p size rest left rest' left' l w is refl refl r
       ∙ ap (λ (z : Option ℕ). first_of p z (first_broken (p + 1) (parts_in n (k - (p + 1)) rest') (all_held n room (k - (p + 1)) left') r)) h)
 
 -- no part is left
@@ -187,16 +187,16 @@ module _ (n room : ℕ) (d g first : List ℕ) (ok : readable n d ≡ true) (is 
   cells_start = ap₂ (λ (m z : ℕ). all_held n z m g) none_passed is
 
   module _ (r : Row) where
-    pub hold-start : all_hold (parts_in n (get_or d 0 0 - 0) first) (all_held n room (get_or d 0 0 - 0) g) r ≡ all_hold (design_in n d) (held_of n d g) r
-    hold-start = ap₂ (λ (ps : List Part) (hs : List (List Held)). all_hold ps hs r) parts_start cells_start
+    pub hold_start : all_hold (parts_in n (get_or d 0 0 - 0) first) (all_held n room (get_or d 0 0 - 0) g) r ≡ all_hold (design_in n d) (held_of n d g) r
+    hold_start = ap₂ (λ (ps : List Part) (hs : List (List Held)). all_hold ps hs r) parts_start cells_start
 
     pub full_start : first_full_part 0 room (parts_in n (get_or d 0 0 - 0) first) (all_held n room (get_or d 0 0 - 0) g) r ≡ first_full_part 0 (room_of n d g) (design_in n d) (held_of n d g) r
     full_start =
         ap₂ (λ (ps : List Part) (hs : List (List Held)). first_full_part 0 room ps hs r) parts_start cells_start
         ∙ ap (λ (z : ℕ). first_full_part 0 z (design_in n d) (held_of n d g) r) is
 
-    pub broken-start : first_broken 0 (parts_in n (get_or d 0 0 - 0) first) (all_held n room (get_or d 0 0 - 0) g) r ≡ first_broken 0 (design_in n d) (held_of n d g) r
-    broken-start = ap₂ (λ (ps : List Part) (hs : List (List Held)). first_broken 0 ps hs r) parts_start cells_start
+    pub broken_start : first_broken 0 (parts_in n (get_or d 0 0 - 0) first) (all_held n room (get_or d 0 0 - 0) g) r ≡ first_broken 0 (design_in n d) (held_of n d g) r
+    broken_start = ap₂ (λ (ps : List Part) (hs : List (List Held)). first_broken 0 ps hs r) parts_start cells_start
 
 -- how many cells a part takes, by its room
 pub size_is : (size room q w : ℕ) → size ≡ q * w → room ≡ q → size ≡ room * w

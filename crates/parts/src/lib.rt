@@ -1,6 +1,8 @@
 // The parts of a register in lent memory: what each part holds, and a row that comes, goes or is asked for.
 // A part holds what the rows look like in its columns, each look once, with how many rows look so, in the order in which the looks
 // first came. Nothing here allocates.
+#![tactic(auto)]
+
 mod asking;
 mod changing;
 mod counting;

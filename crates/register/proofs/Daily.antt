@@ -86,10 +86,10 @@ told_refuses (PartFull p) = refl
 -- what the parts hold after an answer
 after_held : {A : Type 0} (n : ℕ) (d g g₁ : List ℕ) (hs : List (List Held)) (a : Result A Refusal) → After n d g g₁ hs a → held_of n d g₁ ≡ pick (is_done (outcome a)) hs (held_of n d g)
 after_held n d g g₁ hs (Ok x) f = f.held
-after_held n d g g₁ hs (Err e) f = ap (held_of n d) f ∙ sym (refused-pick (told e) (told_refuses e))
+after_held n d g g₁ hs (Err e) f = ap (held_of n d) f ∙ sym (refused_pick (told e) (told_refuses e))
   where
-    refused-pick : (t : Told) → is_done t ≡ false → pick (is_done t) hs (held_of n d g) ≡ held_of n d g
-    refused-pick t z = ap (λ (b : Bool). pick b hs (held_of n d g)) z
+    refused_pick : (t : Told) → is_done t ≡ false → pick (is_done t) hs (held_of n d g) ≡ held_of n d g
+    refused_pick t z = ap (λ (b : Bool). pick b hs (held_of n d g)) z
 
 after_clean : {A : Type 0} (n : ℕ) (d g g₁ : List ℕ) (hs : List (List Held)) (a : Result A Refusal) → After n d g g₁ hs a → CleanCells n d g → CleanCells n d g₁
 after_clean n d g g₁ hs (Ok x) f c = f.clean c

@@ -62,17 +62,17 @@ obeys_come t r ds o w = obeys_from (t ++ r ∷ []) ds λ d u v id iu iv a.
       | inr ku ↦ elim (in_either t (r ∷ []) v iv) [ inl kv ↦ firstly u v d id ku kv a | inr kv ↦ both u v d ku kv ]
     ]
   where
-    is-new : (u : Row) → In u (r ∷ []) → r ≡ u
-    is-new u k = elim k [ inl e ↦ e | inr z ↦ absurd z ]
+    is_new : (u : Row) → In u (r ∷ []) → r ≡ u
+    is_new u k = elim k [ inl e ↦ e | inr z ↦ absurd z ]
 
     firstly : (u v : Row) (d : Dep) → In d ds → In u (r ∷ []) → In v t → agree d.left u v ≡ true → agree d.right u v ≡ true
-    firstly u v d id ku kv a = subst (λ x. PairObeys x v d) (is-new u ku) (λ b. rule_with_at d r v t (rules_with_at d ds r t w id) kv b) a
+    firstly u v d id ku kv a = subst (λ x. PairObeys x v d) (is_new u ku) (λ b. rule_with_at d r v t (rules_with_at d ds r t w id) kv b) a
 
     lastly : (u v : Row) (d : Dep) → In d ds → In v (r ∷ []) → In u t → agree d.left u v ≡ true → agree d.right u v ≡ true
     lastly u v d id kv ku a = agree_sym d.right v u (firstly v u d id kv ku (agree_sym d.left u v a))
 
     both : (u v : Row) (d : Dep) → In u (r ∷ []) → In v (r ∷ []) → agree d.right u v ≡ true
-    both u v d ku kv = subst (λ x. agree d.right u x ≡ true) (sym (is-new u ku) ∙ is-new v kv) (agree_refl d.right u)
+    both u v d ku kv = subst (λ x. agree d.right u x ≡ true) (sym (is_new u ku) ∙ is_new v kv) (agree_refl d.right u)
 
 pub obeys_rules_with : (t : List Row) (r : Row) (ds : List Dep) → ObeysAll (t ++ r ∷ []) ds → rules_with ds r t ≡ true
 obeys_rules_with t r ds o =

@@ -1,5 +1,7 @@
 // A register that is kept in the parts of a design, in lent memory: rows come in, go, and are asked for, one by one or for a whole
 // day, from numbers or from bytes. It takes and refuses what one table with all rules would. Nothing here allocates.
+#![tactic(auto)]
+
 mod day;
 mod day_bytes;
 mod part_reading;

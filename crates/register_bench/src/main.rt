@@ -1,5 +1,7 @@
 // Keeps a register for a day that it reads: four bytes for how many rows each part has room for, low byte first, and then the day
 // as bytes. It writes how many deeds were done and how many were refused. bench/register/run times it.
+#![tactic(auto)]
+
 use anyhow::anyhow;
 use columns::Width;
 use dependencies::{rule_row, rules_from_bytes};

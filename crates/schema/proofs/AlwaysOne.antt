@@ -51,11 +51,11 @@ module _ (n : ℕ) (ds : List Dep) (proper : (d : Dep) → In d ds → Sub d.lef
   abbrev key : Cols
   key = key_of ds (columns 0 n)
 
-  abbrev all-sets : List Cols
-  all-sets = key ∷ sides fs
+  abbrev all_sets : List Cols
+  all_sets = key ∷ sides fs
 
   abbrev sets : List Cols
-  sets = widest all-sets
+  sets = widest all_sets
 
   abbrev ps : List Part
   ps = parts_of fs sets
@@ -64,10 +64,10 @@ module _ (n : ℕ) (ds : List Dep) (proper : (d : Dep) → In d ds → Sub d.lef
   the_key = key_of_key ds (columns 0 n)
 
   key_held : HeldIn key sets
-  key_held = widest_held all-sets key (inl refl)
+  key_held = widest_held all_sets key (inl refl)
 
   rule_held : (m : Dep) → In m fs → HeldIn (m.left ++ m.right) sets
-  rule_held m h = widest_held all-sets (m.left ++ m.right) (inr (sides_in fs m h))
+  rule_held m h = widest_held all_sets (m.left ++ m.right) (inr (sides_in fs m h))
 
   -- what holds of the key and of each fine rule's columns holds of each part's
   of_each : (P : Cols → Type 0) → P key
@@ -76,7 +76,7 @@ module _ (n : ℕ) (ds : List Dep) (proper : (d : Dep) → In d ds → Sub d.lef
   of_each P k f i h =
       let j : i < length sets = rw (← parts_length fs sets) h in
       subst P (sym (parts_cols fs sets i))
-      (elim (widest_sub all-sets (get_or sets i []) (in_at sets i [] j)) [
+      (elim (widest_sub all_sets (get_or sets i []) (in_at sets i [] j)) [
         | inl e ↦ subst P e k
         | inr m ↦
             let r = in_sides fs (get_or sets i []) m in
@@ -151,14 +151,14 @@ module _ (n : ℕ) (ds : List Dep) (proper : (d : Dep) → In d ds → Sub d.lef
             of_each (IsThirdForm ds) (key_third ds (columns 0 n) key the_key)
             (λ d h c i b. rule_third ds d.left c (right_fixed ds d h c i));
         none_inside = λ i j h k f.
-            widest_apart all-sets i j (rw (← parts_length fs sets) h) (rw (← parts_length fs sets) k)
+            widest_apart all_sets i j (rw (← parts_length fs sets) h) (rw (← parts_length fs sets) k)
             (subst (λ v. Sub (get_or sets i []) v) (parts_cols fs sets j)
             (subst (λ v. Sub v (get_or ps j no_part).cols) (parts_cols fs sets i)
             (all_in_sub (get_or ps i no_part).cols (get_or ps j no_part).cols f)));
       }
 
   pub few : length ps ≤ n * length ds + 1
-  few = omega (arith, parts_length fs sets, keep_short (holders all-sets) [] all-sets, sides_length fs, fines_short ds n ds)
+  few = omega (arith, parts_length fs sets, keep_short (holders all_sets) [] all_sets, sides_length fs, fines_short ds n ds)
 
   pub few_rules_lem : length (all_rules ps) ≤ n * length ds
   few_rules_lem = omega (arith, parts_rules_few fs sets, fines_short ds n ds)

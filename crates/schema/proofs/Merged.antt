@@ -80,8 +80,8 @@ module _ (ds ms : List Dep) (least : Least ds ms) where
     abbrev l : Cols
     l = m₀.left
 
-    left-fixes : Sub s (closure ds l)
-    left-fixes c i =
+    left_fixes : Sub s (closure ds l)
+    left_fixes c i =
         elim (g.no_more c i) [
           | inl a ↦ closure_grows ds l c a
           | inr w ↦ subst (λ v. In c (closure ds v)) w.2 (implied_closure ds w.0 (down w.0 w.1) c w.3)
@@ -91,16 +91,16 @@ module _ (ds ms : List Dep) (least : Least ds ms) where
     left_key =
         record {
           inside = sub_all_in l s g.left_in;
-          fixes = closure_implied ds (record { left = l; right = s }) left-fixes;
+          fixes = closure_implied ds (record { left = l; right = s }) left_fixes;
           least = λ j k f.
               sub_all_in l j
               (tight m₀ i₀ j (all_in_sub j l k) (λ b h. implied_closure ds (record { left = j; right = s }) f b (g.right_in m₀ i₀ refl b h)));
         }
 
     -- what fixes a right column and not the left side would make its rule follow from the others
-    not-without : (x : Cols) (a : ℕ) → Sub x s → (In a x → ⊥) → In a (closure ds x) → (m : Dep) → In m ms → m.left ≡ l → In a m.right
+    not_without : (x : Cols) (a : ℕ) → Sub x s → (In a x → ⊥) → In a (closure ds x) → (m : Dep) → In m ms → m.left ≡ l → In a m.right
         → (Sub l (closure ds x) → ⊥) → ⊥
-    not-without x a xs na fixed m i e h no· =
+    not_without x a xs na fixed m i e h no· =
         let sp = in_split ms m i in
         let us = sp.0 in
         let vs = sp.1 in
@@ -155,12 +155,12 @@ module _ (ds ms : List Dep) (least : Least ds ms) where
               elim (cases_Bool (all_in l (closure ds x))) [
                 | inl e ↦
                     inl (closure_implied ds (record { left = x; right = s }) (λ c i.
-                    closure_through ds x l (all_in_sub l (closure ds x) e) c (left-fixes c i)))
+                    closure_through ds x l (all_in_sub l (closure ds x) e) c (left_fixes c i)))
                 | inr e ↦
                     elim (g.no_more a (has_in s a pa)) [
                       | inl y ↦ absurd (no· y)
                       | inr w ↦
-                          absurd (not-without x a (all_in_sub x s xp) (has_not_in x a xa)
+                          absurd (not_without x a (all_in_sub x s xp) (has_not_in x a xa)
                           (implied_closure ds (record { left = x; right = a ∷ [] }) f a (inl refl)) w.0 w.1 w.2 w.3
                           (λ sub. both_ways (all_in l (closure ds x)) e (sub_all_in l (closure ds x) sub)))
                     ]

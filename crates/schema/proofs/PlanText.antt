@@ -29,15 +29,15 @@ first_part rs s ss =
 
 module _ {W : Type 0} (took : W → List ℕ → W → Type 0) where
   -- between f and g the lines of all parts were written that are not left
-  abbrev pub Lines-but : Formatter W → Formatter W → List Part → List Part → Type 0
-  Lines-but f g left all = (bs : List ℕ) × (IsPlainFormatter f → HasWritten took f bs g) × (bs ++ design_text left ≡ design_text all)
+  abbrev pub LinesBut : Formatter W → Formatter W → List Part → List Part → Type 0
+  LinesBut f g left all = (bs : List ℕ) × (IsPlainFormatter f → HasWritten took f bs g) × (bs ++ design_text left ≡ design_text all)
 
-  pub none_lined : (f : Formatter W) (left all : List Part) → left ≡ all → Lines-but f f left all
+  pub none_lined : (f : Formatter W) (left all : List Part) → left ≡ all → LinesBut f f left all
   none_lined f left all e = ([], λ plain. record { wrote = writes_in_calls_nil took _; plain = plain }, ap design_text e)
 
   pub one_lined : (f g h : Formatter W) (rs rest : List Rule) (s : ColumnSet) (before ss : List ColumnSet) (all : List Part) → before ≡ s ∷ ss
-      → rest ≡ over rs s → Lines-but f g (parts_left rs before) all → (IsPlainFormatter g → HasWritten took g (text_of_part (part_of rs s) ++ 10 ∷ []) h)
-      → Lines-but f h (parts_left rest ss) all
+      → rest ≡ over rs s → LinesBut f g (parts_left rs before) all → (IsPlainFormatter g → HasWritten took g (text_of_part (part_of rs s) ++ 10 ∷ []) h)
+      → LinesBut f h (parts_left rest ss) all
   one_lined f g h rs rest s before ss all e o (bs, put, so) next =
       let line : List ℕ = text_of_part (part_of rs s) ++ 10 ∷ [] in (
         bs ++ line,
@@ -49,7 +49,7 @@ module _ {W : Type 0} (took : W → List ℕ → W → Type 0) where
             ∙ ap (λ v. bs ++ design_text (parts_left rs v)) (sym e) ∙ so,
       )
 
-  pub all_lined : (f g : Formatter W) (rs : List Rule) (left : List ColumnSet) (all : List Part) → left ≡ [] → Lines-but f g (parts_left rs left) all
+  pub all_lined : (f g : Formatter W) (rs : List Rule) (left : List ColumnSet) (all : List Part) → left ≡ [] → LinesBut f g (parts_left rs left) all
       → IsPlainFormatter f → HasWritten took f (design_text all) g
   unfolding sets_of
   all_lined f g rs left all e (bs, put, so) plain =

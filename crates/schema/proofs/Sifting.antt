@@ -53,11 +53,11 @@ module _ {A : Type 0} (f : A → Bool) where
       go false h = omega arith
 
   pub any_push : (xs : List A) (x : A) → any (xs ++ x ∷ []) f ≡ (any xs f || f x)
-  any_push [] x = or-false (f x)
+  any_push [] x = or_false (f x)
     where
-      or-false : (b : Bool) → (b || false) ≡ b
-      or-false true = refl
-      or-false false = refl
+      or_false : (b : Bool) → (b || false) ≡ b
+      or_false true = refl
+      or_false false = refl
   any_push (y ∷ xs) x = ap (λ b. f y || b) (any_push xs x) ∙ sym (or_assoc (f y) (any xs f) (f x))
 
   -- after i places of the array xs₀, of which the first len of xs are left
@@ -90,8 +90,8 @@ module _ {A : Type 0} (f : A → Bool) where
         let same : get_or xs₀ i d ≡ x = cc in
         ap (others f) (take_more xs₀ i d long₀ ∙ ap (λ (y : A). take i xs₀ ++ y ∷ []) same) ∙ others_push (take i xs₀) x
 
-    pub sifted-leave : f x ≡ true → Sifted xs₀ (i + 1) len xs
-    sifted-leave e =
+    pub sifted_leave : f x ≡ true → Sifted xs₀ (i + 1) len xs
+    sifted_leave e =
         record {
           low = omega (arith, so.low);
           front = so.front ∙ sym (grown ∙ ap (λ (b : Bool). others f (take i xs₀) ++ pick b [] (x ∷ [])) e ∙ append-nil (others f (take i xs₀)));
@@ -99,8 +99,8 @@ module _ {A : Type 0} (f : A → Bool) where
           long = so.long;
         }
 
-    pub sifted-keep : f x ≡ false → Sifted xs₀ (i + 1) (len + 1) (set xs len x)
-    sifted-keep e =
+    pub sifted_keep : f x ≡ false → Sifted xs₀ (i + 1) (len + 1) (set xs len x)
+    sifted_keep e =
         let room : len < length xs = omega (arith, so.low) in
         record {
           low = omega (arith, so.low);

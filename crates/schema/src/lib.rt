@@ -1,4 +1,6 @@
 // Designs: the parts into which a table is laid, each with rules of its own.
+#![tactic(auto)]
+
 mod designing;
 mod extents;
 mod layout;

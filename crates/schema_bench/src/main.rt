@@ -1,5 +1,7 @@
 // Makes designs of two tables of 16 columns and 32 rules, once for each byte that it reads: `c` for the circles, `m` for the mixed one.
 // It writes how many parts they have, and a mix of the numbers that depends on each. bench/schema/run times it.
+#![tactic(auto)]
+
 use schema::design_for;
 use std::io;
 use std::io::Read;

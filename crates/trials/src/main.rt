@@ -1,5 +1,6 @@
 // Random trials: what the crates answer, beside plain code that is written separately and as simply as can be. A line a subject with counts,
 // or the first difference in full. All starts are fixed, so that every run prints the same.
+#![tactic(auto)]
 
 mod brute_force;
 mod closures;

@@ -286,10 +286,10 @@ module _ (ds : List Dep) (p : Cols) where
       × ((a : ℕ) → is_loose ds p x cs a ≡ is_loose ds p y cs a)
   counts_even cs x y s = (superkeys_even cs x y s, λ a. in_keys_even cs x y a s, λ a. loose_even cs x y a s)
 
-  abbrev pub Prime-loose : Type 0
-  Prime-loose = (a : ℕ) → is_loose ds p [] p a ≡ true → is_in_keys ds p [] p a ≡ true
+  abbrev pub PrimeLoose : Type 0
+  PrimeLoose = (a : ℕ) → is_loose ds p [] p a ≡ true → is_in_keys ds p [] p a ≡ true
 
-  pub prime_third : Prime-loose → IsThirdForm ds p
+  pub prime_third : PrimeLoose → IsThirdForm ds p
   unfolding IsThirdForm
   prime_third f x a xp pa xa g =
       elim (cases_Bool (does_fix ds x p)) [
@@ -309,7 +309,7 @@ module _ (ds : List Dep) (p : Cols) where
             (not_fixes (less (a ∷ u) a) u (λ d i. let w = in_less (a ∷ u) a d i in elim w.0 [ inl q ↦ absurd (w.1 (sym q)) | inr j ↦ j ]) k.4))
       ]
 
-  pub third_prime : IsThirdForm ds p → Prime-loose
+  pub third_prime : IsThirdForm ds p → PrimeLoose
   unfolding IsThirdForm
   third_prime t a h =
       let w = loose_from p [] a h in

@@ -1,5 +1,7 @@
 // Whether a design that somebody else made is one for the rules: the five conditions in their order, each decided exactly.
 // Nothing lost or made up is decided by the chase, and third normal form by the sets inside each part.
+#![tactic(auto)]
+
 mod chase;
 mod check;
 mod design_bytes;

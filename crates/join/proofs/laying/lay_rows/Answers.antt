@@ -6,7 +6,7 @@ use Rattle.parts.specs.Day.{all_more}
 use Rattle.parts.specs.Store.{room_of, held_of}
 use Rattle.join.specs.Laid.{row_count, LaySays}
 use Rattle.join.specs.Undoing.{TakenBack}
-use Rattle.join.proofs.TableLaid.{at_plan, laid_start, laid_next, laid-refused, laid_all, laid_back}
+use Rattle.join.proofs.TableLaid.{at_plan, laid_start, laid_next, laid_refused, laid_all, laid_back}
 use Rattle.join.proofs.laying.lay_rows.Goals as goal
 
 pub loop-i-init : goal.loop-i-init
@@ -24,7 +24,7 @@ returns-in-Err c =
     record {
       says = record {
         long = c.take-back.ensures.back.long ∙ h.long ∙ c.loop-i.invariant.2.long;
-        tells = laid-refused n d c.args.rows.cells.now c.args.register.now.cells.now c.loop-i.i g c.row.result.now l c.loop-i.invariant.2 c.row.ensures c.requires.opened c.in-Err.refusal
+        tells = laid_refused n d c.args.rows.cells.now c.args.register.now.cells.now c.loop-i.i g c.row.result.now l c.loop-i.invariant.2 c.row.ensures c.requires.opened c.in-Err.refusal
             (at_plan (λ (k : ℕ) (z : List ℕ). told c.in-Err.refusal ≡ or_else (opened_told k z) (put_told k (room_of k z g) (design_in k z) (held_of k z g) c.row.result.now)) e f h.told);
         after = laid_back n d c.args.rows.cells.now c.args.register.now.cells.now c.loop-i.i g c.take-back.new.register.cells.now c.requires.opened c.loop-i.invariant.2
             (subst (λ (z : List ℕ). TakenBack n d c.args.rows.cells.now c.loop-i.i 0 z c.take-back.new.register.cells.now) h.after

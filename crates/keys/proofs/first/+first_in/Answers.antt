@@ -1,5 +1,5 @@
 use Rattle.dependencies.specs.Rules.{deps}
-use Rattle.keys.proofs.Forked.{first_leaf, first-with, first_without}
+use Rattle.keys.proofs.Forked.{first_leaf, first_with, first_without}
 use Rattle.keys.proofs.first.+first_in.Goals as goal
 
 pub returns-in-default : goal.returns-in-default
@@ -13,4 +13,4 @@ returns-in-Leaf t c = first_leaf (deps c.args.rules.now) c.args.branch c.in-Leaf
 pub returns-in-Some : goal.returns-in-Some
 returns-in-Some t c =
     let h = c.in-Fork.halves in
-    first-with (deps c.args.rules.now) c.args.branch h.with h.without c.in-Fork.ensures.0 c.in-Fork.ensures.1 c.in-Some.key c.in-Some.ensures
+    first_with (deps c.args.rules.now) c.args.branch h.with h.without c.in-Fork.ensures.0 c.in-Fork.ensures.1 c.in-Some.key c.in-Some.ensures

@@ -1,12 +1,12 @@
 use Rattle.std.proofs.Common.{◌+◌, get_or, sym, refl, ◌∙◌, arith}
 use Rattle.columns.specs.Sets.{cols}
-use Rattle.parts.proofs.Walks.{part_sound, part_long, rows_long, left-next, left_start, hold-start, size_is, hold_stop, hold-next, hold_end}
+use Rattle.parts.proofs.Walks.{part_sound, part_long, rows_long, left_next, left_start, hold_start, size_is, hold_stop, hold_next, hold_end}
 use Rattle.parts.proofs.asking.all_hold.Goals as goal
 
 pub loop-p-init : goal.loop-p-init
 loop-p-init c = (
   left_start c.args.parts.width.columns c.room-room.result c.args.parts.numbers.now c.args.cells.now c.first-rest.result.now c.args.parts.sound c.room-room.ensures c.first-rest.ensures,
-  hold-start c.args.parts.width.columns c.room-room.result c.args.parts.numbers.now c.args.cells.now c.first-rest.result.now c.args.parts.sound c.room-room.ensures c.first-rest.ensures c.args.row.now,
+  hold_start c.args.parts.width.columns c.room-room.result c.args.parts.numbers.now c.args.cells.now c.first-rest.result.now c.args.parts.sound c.room-room.ensures c.first-rest.ensures c.args.row.now,
 )
 
 pub slice-bounds-rows-end : goal.slice-bounds-rows-end
@@ -32,8 +32,8 @@ slice-bounds-left-start c = omega (arith, part_long c.args.parts.width.columns c
 
 pub loop-p-preserved : goal.loop-p-preserved
 loop-p-preserved c = (
-  left-next c.args.parts.width.columns c.room-room.result (get_or c.args.parts.numbers.now 0 0) c.loop-p.p c.size-size.result c.loop-p.rest.now c.loop-p.left.now c.rest-rest.result.now _ (omega arith) c.loop-p.invariant.0 (size_is c.size-size.result c.room-room.result _ (c.args.parts.width.columns + 1) c.size-size.ensures.is c.room-room.ensures) c.rest-rest.ensures refl,
-  hold-next c.args.parts.width.columns c.room-room.result (get_or c.args.parts.numbers.now 0 0) c.loop-p.p c.size-size.result c.loop-p.rest.now c.loop-p.left.now c.rest-rest.result.now _ (omega arith) c.loop-p.invariant.0 (size_is c.size-size.result c.room-room.result _ (c.args.parts.width.columns + 1) c.size-size.ensures.is c.room-room.ensures) c.rest-rest.ensures refl c.args.row.now (cols c.set.result) c.set.ensures _ c.loop-p.invariant.1 (sym c.holds.ensures ∙ c.if-not-holds.false),
+  left_next c.args.parts.width.columns c.room-room.result (get_or c.args.parts.numbers.now 0 0) c.loop-p.p c.size-size.result c.loop-p.rest.now c.loop-p.left.now c.rest-rest.result.now _ (omega arith) c.loop-p.invariant.0 (size_is c.size-size.result c.room-room.result _ (c.args.parts.width.columns + 1) c.size-size.ensures.is c.room-room.ensures) c.rest-rest.ensures refl,
+  hold_next c.args.parts.width.columns c.room-room.result (get_or c.args.parts.numbers.now 0 0) c.loop-p.p c.size-size.result c.loop-p.rest.now c.loop-p.left.now c.rest-rest.result.now _ (omega arith) c.loop-p.invariant.0 (size_is c.size-size.result c.room-room.result _ (c.args.parts.width.columns + 1) c.size-size.ensures.is c.room-room.ensures) c.rest-rest.ensures refl c.args.row.now (cols c.set.result) c.set.ensures _ c.loop-p.invariant.1 (sym c.holds.ensures ∙ c.if-not-holds.false),
 )
 
 pub returns : goal.returns

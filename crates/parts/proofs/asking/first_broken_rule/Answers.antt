@@ -5,7 +5,7 @@ use Rattle.parts.specs.Day.{looks_of}
 use Rattle.parts.specs.Store.{held_in}
 use Rattle.parts.specs.Answers.{clash, broken_in}
 use Rattle.parts.proofs.Decoded.{held_length, held_at}
-use Rattle.parts.proofs.Walks.{part_sound, part_long, rows_long, left-next, left_start, broken-start, size_is, broken_stop, broken-next, broken_end}
+use Rattle.parts.proofs.Walks.{part_sound, part_long, rows_long, left_next, left_start, broken_start, size_is, broken_stop, broken_next, broken_end}
 use Rattle.parts.proofs.Breaking.{rule_next, rule_stop, rule_end, row_next, row_stop, row_end}
 use Rattle.parts.proofs.asking.first_broken_rule.Goals as goal
 
@@ -13,7 +13,7 @@ pub parts-init : goal.parts-init
 parts-init c = (
   refl,
   left_start c.args.parts.width.columns c.room-room.result c.args.parts.numbers.now c.args.cells.now c.first-rest.result.now c.args.parts.sound c.room-room.ensures c.first-rest.ensures,
-  broken-start c.args.parts.width.columns c.room-room.result c.args.parts.numbers.now c.args.cells.now c.first-rest.result.now c.args.parts.sound c.room-room.ensures c.first-rest.ensures c.args.row.now,
+  broken_start c.args.parts.width.columns c.room-room.result c.args.parts.numbers.now c.args.cells.now c.first-rest.result.now c.args.parts.sound c.room-room.ensures c.first-rest.ensures c.args.row.now,
 )
 
 pub slice-bounds-rows-end : goal.slice-bounds-rows-end
@@ -55,8 +55,8 @@ slice-bounds-left-start c = omega (arith, part_long c.args.parts.width.columns c
 pub parts-preserved : goal.parts-preserved
 parts-preserved c = (
   c.loop-q.invariant.0,
-  left-next c.args.parts.width.columns c.room-room.result (get_or c.args.parts.numbers.now 0 0) c.parts.p c.size-size.result c.parts.rest.now c.parts.left.now c.rest-rest.result.now _ (omega arith) c.parts.invariant.1 (size_is c.size-size.result c.room-room.result _ (c.args.parts.width.columns + 1) c.size-size.ensures.is c.room-room.ensures) c.rest-rest.ensures refl,
-  broken-next c.args.parts.width.columns c.room-room.result (get_or c.args.parts.numbers.now 0 0) c.parts.p c.size-size.result c.parts.rest.now c.parts.left.now c.rest-rest.result.now _ (omega arith) c.parts.invariant.1 (size_is c.size-size.result c.room-room.result _ (c.args.parts.width.columns + 1) c.size-size.ensures.is c.room-room.ensures) c.rest-rest.ensures refl c.args.row.now _ c.parts.invariant.2
+  left_next c.args.parts.width.columns c.room-room.result (get_or c.args.parts.numbers.now 0 0) c.parts.p c.size-size.result c.parts.rest.now c.parts.left.now c.rest-rest.result.now _ (omega arith) c.parts.invariant.1 (size_is c.size-size.result c.room-room.result _ (c.args.parts.width.columns + 1) c.size-size.ensures.is c.room-room.ensures) c.rest-rest.ensures refl,
+  broken_next c.args.parts.width.columns c.room-room.result (get_or c.args.parts.numbers.now 0 0) c.parts.p c.size-size.result c.parts.rest.now c.parts.left.now c.rest-rest.result.now _ (omega arith) c.parts.invariant.1 (size_is c.size-size.result c.room-room.result _ (c.args.parts.width.columns + 1) c.size-size.ensures.is c.room-room.ensures) c.rest-rest.ensures refl c.args.row.now _ c.parts.invariant.2
       (rule_end c.args.parts.width.columns (get_or c.parts.rest.now 1 0) c.parts.rest.now c.loop-q.q c.args.row.now (looks_of (held_in c.args.parts.width.columns c.room-room.result (take (c.size-size.result - 0) c.parts.left.now))) _ (omega (arith, c.rules-q-end.ensures)) c.loop-q.invariant.1),
 )
 

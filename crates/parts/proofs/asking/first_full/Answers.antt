@@ -1,6 +1,6 @@
 use Rattle.std.proofs.Common.{◌+◌, get_or, sym, refl, ◌∙◌, arith}
 use Rattle.columns.specs.Sets.{cols}
-use Rattle.parts.proofs.Walks.{part_sound, part_long, rows_long, left-next, left_start, full_start, size_is, full_stop, full-next, full_end}
+use Rattle.parts.proofs.Walks.{part_sound, part_long, rows_long, left_next, left_start, full_start, size_is, full_stop, full_next, full_end}
 use Rattle.parts.proofs.asking.first_full.Goals as goal
 
 pub loop-p-init : goal.loop-p-init
@@ -32,8 +32,8 @@ slice-bounds-left-start c = omega (arith, part_long c.args.parts.width.columns c
 
 pub loop-p-preserved : goal.loop-p-preserved
 loop-p-preserved c = (
-  left-next c.args.parts.width.columns c.room-room.result (get_or c.args.parts.numbers.now 0 0) c.loop-p.p c.size-size.result c.loop-p.rest.now c.loop-p.left.now c.rest-rest.result.now _ (omega arith) c.loop-p.invariant.0 (size_is c.size-size.result c.room-room.result _ (c.args.parts.width.columns + 1) c.size-size.ensures.is c.room-room.ensures) c.rest-rest.ensures refl,
-  full-next c.args.parts.width.columns c.room-room.result (get_or c.args.parts.numbers.now 0 0) c.loop-p.p c.size-size.result c.loop-p.rest.now c.loop-p.left.now c.rest-rest.result.now _ (omega arith) c.loop-p.invariant.0 (size_is c.size-size.result c.room-room.result _ (c.args.parts.width.columns + 1) c.size-size.ensures.is c.room-room.ensures) c.rest-rest.ensures refl c.args.row.now (cols c.set.result) c.set.ensures _ c.loop-p.invariant.1 (sym c.is-full.ensures ∙ c.if-is-full.false),
+  left_next c.args.parts.width.columns c.room-room.result (get_or c.args.parts.numbers.now 0 0) c.loop-p.p c.size-size.result c.loop-p.rest.now c.loop-p.left.now c.rest-rest.result.now _ (omega arith) c.loop-p.invariant.0 (size_is c.size-size.result c.room-room.result _ (c.args.parts.width.columns + 1) c.size-size.ensures.is c.room-room.ensures) c.rest-rest.ensures refl,
+  full_next c.args.parts.width.columns c.room-room.result (get_or c.args.parts.numbers.now 0 0) c.loop-p.p c.size-size.result c.loop-p.rest.now c.loop-p.left.now c.rest-rest.result.now _ (omega arith) c.loop-p.invariant.0 (size_is c.size-size.result c.room-room.result _ (c.args.parts.width.columns + 1) c.size-size.ensures.is c.room-room.ensures) c.rest-rest.ensures refl c.args.row.now (cols c.set.result) c.set.ensures _ c.loop-p.invariant.1 (sym c.is-full.ensures ∙ c.if-is-full.false),
 )
 
 pub returns : goal.returns

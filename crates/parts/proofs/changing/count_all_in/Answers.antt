@@ -2,7 +2,7 @@ use Rattle.std.proofs.Common.{◌≡◌, ℕ, ◌+◌, ◌*◌, ◌≤◌, lengt
 use Rattle.columns.specs.Sets.{cols}
 use Rattle.parts.specs.Day.{one_more, all_more}
 use Rattle.parts.proofs.Walks.{size_is}
-use Rattle.parts.proofs.Shares.{more_apart, so_far_start, part-stands-here, share-fits, lent-long, room-lent, so_far_next, so_far_end}
+use Rattle.parts.proofs.Shares.{more_apart, so_far_start, part_stands_here, share_fits, lent_long, room_lent, so_far_next, so_far_end}
 use Rattle.parts.proofs.changing.count_all_in.Goals as goal
 
 pub loop-p-init : goal.loop-p-init
@@ -12,37 +12,37 @@ pub overflow-mul-at : goal.overflow-mul-at
 overflow-mul-at c =
     let s = (size_is c.size-size.result c.room-room.result _ (c.args.parts.width.columns + 1) c.size-size.ensures.is c.room-room.ensures) in
     let z : c.loop-p.p * c.size-size.result ≡ c.loop-p.p * (c.room-room.result * (c.args.parts.width.columns + 1)) = ap (λ (k : ℕ). c.loop-p.p * k) s in
-    let h : c.loop-p.p * c.size-size.result + c.size-size.result ≤ length c.loop-p.cells = omega (arith, share-fits one_more c.args.parts.width.columns c.room-room.result c.args.parts.numbers.now c.args.cells.now c.args.row.now c.args.parts.sound c.room-room.ensures c.loop-p.p c.loop-p.rest.now c.loop-p.cells (omega arith) c.loop-p.invariant c.loop-p.auto.cells) in
+    let h : c.loop-p.p * c.size-size.result + c.size-size.result ≤ length c.loop-p.cells = omega (arith, share_fits one_more c.args.parts.width.columns c.room-room.result c.args.parts.numbers.now c.args.cells.now c.args.row.now c.args.parts.sound c.room-room.ensures c.loop-p.p c.loop-p.rest.now c.loop-p.cells (omega arith) c.loop-p.invariant c.loop-p.auto.cells) in
     search rules
 
 pub overflow-add-at : goal.overflow-add-at
 overflow-add-at c =
     let s = (size_is c.size-size.result c.room-room.result _ (c.args.parts.width.columns + 1) c.size-size.ensures.is c.room-room.ensures) in
     let z : c.loop-p.p * c.size-size.result ≡ c.loop-p.p * (c.room-room.result * (c.args.parts.width.columns + 1)) = ap (λ (k : ℕ). c.loop-p.p * k) s in
-    let h : c.loop-p.p * c.size-size.result + c.size-size.result ≤ length c.loop-p.cells = omega (arith, share-fits one_more c.args.parts.width.columns c.room-room.result c.args.parts.numbers.now c.args.cells.now c.args.row.now c.args.parts.sound c.room-room.ensures c.loop-p.p c.loop-p.rest.now c.loop-p.cells (omega arith) c.loop-p.invariant c.loop-p.auto.cells) in
+    let h : c.loop-p.p * c.size-size.result + c.size-size.result ≤ length c.loop-p.cells = omega (arith, share_fits one_more c.args.parts.width.columns c.room-room.result c.args.parts.numbers.now c.args.cells.now c.args.row.now c.args.parts.sound c.room-room.ensures c.loop-p.p c.loop-p.rest.now c.loop-p.cells (omega arith) c.loop-p.invariant c.loop-p.auto.cells) in
     search rules
 
 pub invariant-of-part : goal.invariant-of-part
-invariant-of-part c = (part-stands-here one_more c.args.parts.width.columns c.room-room.result c.args.parts.numbers.now c.args.cells.now c.args.row.now c.args.parts.sound c.room-room.ensures c.loop-p.p c.loop-p.rest.now c.loop-p.cells (omega arith) c.loop-p.invariant c.loop-p.auto.cells, tt)
+invariant-of-part c = (part_stands_here one_more c.args.parts.width.columns c.room-room.result c.args.parts.numbers.now c.args.cells.now c.args.row.now c.args.parts.sound c.room-room.ensures c.loop-p.p c.loop-p.rest.now c.loop-p.cells (omega arith) c.loop-p.invariant c.loop-p.auto.cells, tt)
 
 pub offset-bounds-cells-at : goal.offset-bounds-cells-at
 offset-bounds-cells-at c =
     let s = (size_is c.size-size.result c.room-room.result _ (c.args.parts.width.columns + 1) c.size-size.ensures.is c.room-room.ensures) in
     let z : c.loop-p.p * c.size-size.result ≡ c.loop-p.p * (c.room-room.result * (c.args.parts.width.columns + 1)) = ap (λ (k : ℕ). c.loop-p.p * k) s in
-    let h : c.loop-p.p * c.size-size.result + c.size-size.result ≤ length c.loop-p.cells = omega (arith, share-fits one_more c.args.parts.width.columns c.room-room.result c.args.parts.numbers.now c.args.cells.now c.args.row.now c.args.parts.sound c.room-room.ensures c.loop-p.p c.loop-p.rest.now c.loop-p.cells (omega arith) c.loop-p.invariant c.loop-p.auto.cells) in
+    let h : c.loop-p.p * c.size-size.result + c.size-size.result ≤ length c.loop-p.cells = omega (arith, share_fits one_more c.args.parts.width.columns c.room-room.result c.args.parts.numbers.now c.args.cells.now c.args.row.now c.args.parts.sound c.room-room.ensures c.loop-p.p c.loop-p.rest.now c.loop-p.cells (omega arith) c.loop-p.invariant c.loop-p.auto.cells) in
     search rules
 
 pub slice-bounds-count-in-end : goal.slice-bounds-count-in-end
 slice-bounds-count-in-end c =
     let s = (size_is c.size-size.result c.room-room.result _ (c.args.parts.width.columns + 1) c.size-size.ensures.is c.room-room.ensures) in
     let z : c.loop-p.p * c.size-size.result ≡ c.loop-p.p * (c.room-room.result * (c.args.parts.width.columns + 1)) = ap (λ (k : ℕ). c.loop-p.p * k) s in
-    omega (arith, share-fits one_more c.args.parts.width.columns c.room-room.result c.args.parts.numbers.now c.args.cells.now c.args.row.now c.args.parts.sound c.room-room.ensures c.loop-p.p c.loop-p.rest.now c.loop-p.cells (omega arith) c.loop-p.invariant c.loop-p.auto.cells)
+    omega (arith, share_fits one_more c.args.parts.width.columns c.room-room.result c.args.parts.numbers.now c.args.cells.now c.args.row.now c.args.parts.sound c.room-room.ensures c.loop-p.p c.loop-p.rest.now c.loop-p.cells (omega arith) c.loop-p.invariant c.loop-p.auto.cells)
 
 pub count-in-requires : goal.count-in-requires
 count-in-requires c =
     record {
-      whole = lent-long one_more c.args.parts.width.columns c.room-room.result c.args.parts.numbers.now c.args.cells.now c.args.row.now c.args.parts.sound c.room-room.ensures c.loop-p.p c.loop-p.rest.now c.loop-p.cells (omega arith) c.loop-p.invariant c.loop-p.auto.cells c.size-size.result (c.loop-p.p * c.size-size.result) (size_is c.size-size.result c.room-room.result _ (c.args.parts.width.columns + 1) c.size-size.ensures.is c.room-room.ensures) refl;
-      free = room-lent one_more c.args.parts.width.columns c.room-room.result c.args.parts.numbers.now c.args.cells.now c.args.row.now c.args.parts.sound c.room-room.ensures c.loop-p.p c.loop-p.rest.now c.loop-p.cells (omega arith) c.loop-p.invariant c.loop-p.auto.cells c.size-size.result (c.loop-p.p * c.size-size.result) (size_is c.size-size.result c.room-room.result _ (c.args.parts.width.columns + 1) c.size-size.ensures.is c.room-room.ensures) refl (cols c.set.result) c.set.ensures c.requires.free;
+      whole = lent_long one_more c.args.parts.width.columns c.room-room.result c.args.parts.numbers.now c.args.cells.now c.args.row.now c.args.parts.sound c.room-room.ensures c.loop-p.p c.loop-p.rest.now c.loop-p.cells (omega arith) c.loop-p.invariant c.loop-p.auto.cells c.size-size.result (c.loop-p.p * c.size-size.result) (size_is c.size-size.result c.room-room.result _ (c.args.parts.width.columns + 1) c.size-size.ensures.is c.room-room.ensures) refl;
+      free = room_lent one_more c.args.parts.width.columns c.room-room.result c.args.parts.numbers.now c.args.cells.now c.args.row.now c.args.parts.sound c.room-room.ensures c.loop-p.p c.loop-p.rest.now c.loop-p.cells (omega arith) c.loop-p.invariant c.loop-p.auto.cells c.size-size.result (c.loop-p.p * c.size-size.result) (size_is c.size-size.result c.room-room.result _ (c.args.parts.width.columns + 1) c.size-size.ensures.is c.room-room.ensures) refl (cols c.set.result) c.set.ensures c.requires.free;
     }
 
 pub loop-p-preserved : goal.loop-p-preserved

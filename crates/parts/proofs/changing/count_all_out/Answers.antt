@@ -2,7 +2,7 @@ use Rattle.std.proofs.Common.{◌≡◌, ℕ, ◌+◌, ◌*◌, ◌≤◌, lengt
 use Rattle.columns.specs.Sets.{cols}
 use Rattle.parts.specs.Day.{one_less, all_less}
 use Rattle.parts.proofs.Walks.{size_is}
-use Rattle.parts.proofs.Shares.{less_apart, so_far_start, part-stands-here, share-fits, lent-long, held-lent, so_far_next, so_far_end}
+use Rattle.parts.proofs.Shares.{less_apart, so_far_start, part_stands_here, share_fits, lent_long, held_lent, so_far_next, so_far_end}
 use Rattle.parts.proofs.changing.count_all_out.Goals as goal
 
 pub loop-p-init : goal.loop-p-init
@@ -12,37 +12,37 @@ pub overflow-mul-at : goal.overflow-mul-at
 overflow-mul-at c =
     let s = (size_is c.size-size.result c.room-room.result _ (c.args.parts.width.columns + 1) c.size-size.ensures.is c.room-room.ensures) in
     let z : c.loop-p.p * c.size-size.result ≡ c.loop-p.p * (c.room-room.result * (c.args.parts.width.columns + 1)) = ap (λ (k : ℕ). c.loop-p.p * k) s in
-    let h : c.loop-p.p * c.size-size.result + c.size-size.result ≤ length c.loop-p.cells = omega (arith, share-fits one_less c.args.parts.width.columns c.room-room.result c.args.parts.numbers.now c.args.cells.now c.args.row.now c.args.parts.sound c.room-room.ensures c.loop-p.p c.loop-p.rest.now c.loop-p.cells (omega arith) c.loop-p.invariant c.loop-p.auto.cells) in
+    let h : c.loop-p.p * c.size-size.result + c.size-size.result ≤ length c.loop-p.cells = omega (arith, share_fits one_less c.args.parts.width.columns c.room-room.result c.args.parts.numbers.now c.args.cells.now c.args.row.now c.args.parts.sound c.room-room.ensures c.loop-p.p c.loop-p.rest.now c.loop-p.cells (omega arith) c.loop-p.invariant c.loop-p.auto.cells) in
     search rules
 
 pub overflow-add-at : goal.overflow-add-at
 overflow-add-at c =
     let s = (size_is c.size-size.result c.room-room.result _ (c.args.parts.width.columns + 1) c.size-size.ensures.is c.room-room.ensures) in
     let z : c.loop-p.p * c.size-size.result ≡ c.loop-p.p * (c.room-room.result * (c.args.parts.width.columns + 1)) = ap (λ (k : ℕ). c.loop-p.p * k) s in
-    let h : c.loop-p.p * c.size-size.result + c.size-size.result ≤ length c.loop-p.cells = omega (arith, share-fits one_less c.args.parts.width.columns c.room-room.result c.args.parts.numbers.now c.args.cells.now c.args.row.now c.args.parts.sound c.room-room.ensures c.loop-p.p c.loop-p.rest.now c.loop-p.cells (omega arith) c.loop-p.invariant c.loop-p.auto.cells) in
+    let h : c.loop-p.p * c.size-size.result + c.size-size.result ≤ length c.loop-p.cells = omega (arith, share_fits one_less c.args.parts.width.columns c.room-room.result c.args.parts.numbers.now c.args.cells.now c.args.row.now c.args.parts.sound c.room-room.ensures c.loop-p.p c.loop-p.rest.now c.loop-p.cells (omega arith) c.loop-p.invariant c.loop-p.auto.cells) in
     search rules
 
 pub invariant-of-part : goal.invariant-of-part
-invariant-of-part c = (part-stands-here one_less c.args.parts.width.columns c.room-room.result c.args.parts.numbers.now c.args.cells.now c.args.row.now c.args.parts.sound c.room-room.ensures c.loop-p.p c.loop-p.rest.now c.loop-p.cells (omega arith) c.loop-p.invariant c.loop-p.auto.cells, tt)
+invariant-of-part c = (part_stands_here one_less c.args.parts.width.columns c.room-room.result c.args.parts.numbers.now c.args.cells.now c.args.row.now c.args.parts.sound c.room-room.ensures c.loop-p.p c.loop-p.rest.now c.loop-p.cells (omega arith) c.loop-p.invariant c.loop-p.auto.cells, tt)
 
 pub offset-bounds-cells-at : goal.offset-bounds-cells-at
 offset-bounds-cells-at c =
     let s = (size_is c.size-size.result c.room-room.result _ (c.args.parts.width.columns + 1) c.size-size.ensures.is c.room-room.ensures) in
     let z : c.loop-p.p * c.size-size.result ≡ c.loop-p.p * (c.room-room.result * (c.args.parts.width.columns + 1)) = ap (λ (k : ℕ). c.loop-p.p * k) s in
-    let h : c.loop-p.p * c.size-size.result + c.size-size.result ≤ length c.loop-p.cells = omega (arith, share-fits one_less c.args.parts.width.columns c.room-room.result c.args.parts.numbers.now c.args.cells.now c.args.row.now c.args.parts.sound c.room-room.ensures c.loop-p.p c.loop-p.rest.now c.loop-p.cells (omega arith) c.loop-p.invariant c.loop-p.auto.cells) in
+    let h : c.loop-p.p * c.size-size.result + c.size-size.result ≤ length c.loop-p.cells = omega (arith, share_fits one_less c.args.parts.width.columns c.room-room.result c.args.parts.numbers.now c.args.cells.now c.args.row.now c.args.parts.sound c.room-room.ensures c.loop-p.p c.loop-p.rest.now c.loop-p.cells (omega arith) c.loop-p.invariant c.loop-p.auto.cells) in
     search rules
 
 pub slice-bounds-count-out-end : goal.slice-bounds-count-out-end
 slice-bounds-count-out-end c =
     let s = (size_is c.size-size.result c.room-room.result _ (c.args.parts.width.columns + 1) c.size-size.ensures.is c.room-room.ensures) in
     let z : c.loop-p.p * c.size-size.result ≡ c.loop-p.p * (c.room-room.result * (c.args.parts.width.columns + 1)) = ap (λ (k : ℕ). c.loop-p.p * k) s in
-    omega (arith, share-fits one_less c.args.parts.width.columns c.room-room.result c.args.parts.numbers.now c.args.cells.now c.args.row.now c.args.parts.sound c.room-room.ensures c.loop-p.p c.loop-p.rest.now c.loop-p.cells (omega arith) c.loop-p.invariant c.loop-p.auto.cells)
+    omega (arith, share_fits one_less c.args.parts.width.columns c.room-room.result c.args.parts.numbers.now c.args.cells.now c.args.row.now c.args.parts.sound c.room-room.ensures c.loop-p.p c.loop-p.rest.now c.loop-p.cells (omega arith) c.loop-p.invariant c.loop-p.auto.cells)
 
 pub count-out-requires : goal.count-out-requires
 count-out-requires c =
     record {
-      whole = lent-long one_less c.args.parts.width.columns c.room-room.result c.args.parts.numbers.now c.args.cells.now c.args.row.now c.args.parts.sound c.room-room.ensures c.loop-p.p c.loop-p.rest.now c.loop-p.cells (omega arith) c.loop-p.invariant c.loop-p.auto.cells c.size-size.result (c.loop-p.p * c.size-size.result) (size_is c.size-size.result c.room-room.result _ (c.args.parts.width.columns + 1) c.size-size.ensures.is c.room-room.ensures) refl;
-      there = held-lent one_less c.args.parts.width.columns c.room-room.result c.args.parts.numbers.now c.args.cells.now c.args.row.now c.args.parts.sound c.room-room.ensures c.loop-p.p c.loop-p.rest.now c.loop-p.cells (omega arith) c.loop-p.invariant c.loop-p.auto.cells c.size-size.result (c.loop-p.p * c.size-size.result) (size_is c.size-size.result c.room-room.result _ (c.args.parts.width.columns + 1) c.size-size.ensures.is c.room-room.ensures) refl (cols c.set.result) c.set.ensures c.requires.there;
+      whole = lent_long one_less c.args.parts.width.columns c.room-room.result c.args.parts.numbers.now c.args.cells.now c.args.row.now c.args.parts.sound c.room-room.ensures c.loop-p.p c.loop-p.rest.now c.loop-p.cells (omega arith) c.loop-p.invariant c.loop-p.auto.cells c.size-size.result (c.loop-p.p * c.size-size.result) (size_is c.size-size.result c.room-room.result _ (c.args.parts.width.columns + 1) c.size-size.ensures.is c.room-room.ensures) refl;
+      there = held_lent one_less c.args.parts.width.columns c.room-room.result c.args.parts.numbers.now c.args.cells.now c.args.row.now c.args.parts.sound c.room-room.ensures c.loop-p.p c.loop-p.rest.now c.loop-p.cells (omega arith) c.loop-p.invariant c.loop-p.auto.cells c.size-size.result (c.loop-p.p * c.size-size.result) (size_is c.size-size.result c.room-room.result _ (c.args.parts.width.columns + 1) c.size-size.ensures.is c.room-room.ensures) refl (cols c.set.result) c.set.ensures c.requires.there;
     }
 
 pub loop-p-preserved : goal.loop-p-preserved

@@ -14,12 +14,12 @@ returns-then-differ-eq0 c =
     let x = c.args.self.bits in let y = c.args.other.bits in
     sym (ap (λ (z : ℕ). before (set_in 0 16 x) (set_in 0 16 z)) (sym (xor_none x y c.if-differ-eq0.true)) ∙ before_self (set_in 0 16 x))
 
-pub overflow-shr-here : goal.overflow-shr-here
-overflow-shr-here c =
+pub overflow_shr-here : goal.overflow_shr-here
+overflow_shr-here c =
     trailing_below 16 (bit_xor c.args.self.bits c.args.other.bits) (xor_lt 16 c.args.self.bits c.args.other.bits (omega arith) (omega arith)) c.if-differ-eq0.false
 
-pub overflow-shr-there : goal.overflow-shr-there
-overflow-shr-there c =
+pub overflow_shr-there : goal.overflow_shr-there
+overflow_shr-there c =
     trailing_below 16 (bit_xor c.args.self.bits c.args.other.bits) (xor_lt 16 c.args.self.bits c.args.other.bits (omega arith) (omega arith)) c.if-differ-eq0.false
 
 pub returns-then-here-eq1 : goal.returns-then-here-eq1

@@ -15,7 +15,7 @@ returns c d =
     ∙ has_or 16 x (2 ^ i) d
     ∙ ap (λ (b : Bool). has (set_in 0 16 x) d || b) (has_one 16 i d c.args.c.small)
 
-pub invariant-of-result : goal.invariant-of-result
-invariant-of-result c =
+pub invariant_of-result : goal.invariant_of-result
+invariant_of-result c =
     let i = c.args.c.index in
     (or_lt 16 c.args.self.bits (1 * 2 ^ i % 65536) (omega arith) (mod_below (1 * 2 ^ i) 65536 (omega arith)), tt)

@@ -4,7 +4,7 @@ use Rattle.std.proofs.lemmas.List.{drop_all}
 use Rattle.columns.specs.Cols.{Cols, set_in}
 use Rattle.columns.specs.Sets.{cols}
 use Rattle.columns.specs.Shown.{listed}
-use Rattle.columns.proofs.Printed.{Led-but, none_led, one_led, skip_led, all_led}
+use Rattle.columns.proofs.Printed.{LedBut, none_led, one_led, skip_led, all_led}
 use Rattle.keys.specs.Shown.{key_lead, fitting}
 use Rattle.keys.proofs.FittingKeys.{next_fits, next_not}
 use Rattle.keys.proofs.text.KeysLineDisplay.fmt.Goals as goal
@@ -27,16 +27,16 @@ loop-i-preserved g c =
     let key : Cols = set_in 0 n (get_or xs i 0) in
     elim c.match-from-bits.branch [
       | in-Some+in-ok-write-2 w ↦
-          subst (λ v. Led-but took listed (codes "; ") f0 v (key_lead c.match-from-bits.lead) left (codes " ") all) (sym w.f-is)
-          (subst (λ v. Led-but took listed (codes "; ") f0 w.write-in-Some.new.self (key_lead v) left (codes " ") all) (sym w.lead-is)
+          subst (λ v. LedBut took listed (codes "; ") f0 v (key_lead c.match-from-bits.lead) left (codes " ") all) (sym w.f-is)
+          (subst (λ v. LedBut took listed (codes "; ") f0 w.write-in-Some.new.self (key_lead v) left (codes " ") all) (sym w.lead-is)
           (one_led took listed (codes "; ") f0 c.loop-i.f w.write-in-Some.new.self lead key left before (codes " ") all
           (next_fits n xs i c.loop-i-test.true w.in-Some.ensures.0) c.loop-i.invariant
           (λ plain.
           has_written_of_eq took c.loop-i.f _ _ w.write-in-Some.new.self (ap (λ v. lead ++ listed v) w.in-Some.ensures.1)
           (w.in-ok-write-2.ensures.shows plain refl))))
       | in-default w ↦
-          subst (λ v. Led-but took listed (codes "; ") f0 v (key_lead c.match-from-bits.lead) left (codes " ") all) (sym w.f-is)
-          (subst (λ v. Led-but took listed (codes "; ") f0 c.loop-i.f (key_lead v) left (codes " ") all) (sym w.lead-is)
+          subst (λ v. LedBut took listed (codes "; ") f0 v (key_lead c.match-from-bits.lead) left (codes " ") all) (sym w.f-is)
+          (subst (λ v. LedBut took listed (codes "; ") f0 c.loop-i.f (key_lead v) left (codes " ") all) (sym w.lead-is)
           (skip_led took listed (codes "; ") f0 c.loop-i.f lead left before (codes " ") all
           (next_not n xs i c.loop-i-test.true w.in-default.ensures) c.loop-i.invariant))
     ]

@@ -1,11 +1,11 @@
 use Rattle.std.proofs.Common.{drop, codes}
 use Rattle.columns.specs.Shown.{listed}
-use Rattle.columns.proofs.Printed.{Led-but}
+use Rattle.columns.proofs.Printed.{LedBut}
 use Rattle.keys.specs.Shown.{key_lead, fitting}
 use Rattle.keys.proofs.text.KeysLineDisplay.fmt.Given as goal
 
 -- all keys were written that are not left
 abbrev pub invariant-loop-i : goal.invariant-loop-i
 invariant-loop-i g l =
-    Led-but g.W.Write.write_str_gives listed (codes "; ") l.initial.f l.f (key_lead l.lead) (fitting l.self.width.columns (drop l.i l.self.keys.now))
+    LedBut g.W.Write.write_str_gives listed (codes "; ") l.initial.f l.f (key_lead l.lead) (fitting l.self.width.columns (drop l.i l.self.keys.now))
     (codes " ") (fitting l.self.width.columns l.self.keys.now)

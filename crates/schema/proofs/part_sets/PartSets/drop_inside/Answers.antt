@@ -3,7 +3,7 @@ use Rattle.columns.specs.Cols.{all_in}
 use Rattle.columns.specs.Sets.{cols}
 use Rattle.columns.specs.declared.set.ColumnSet.{ColumnSet}
 use Rattle.schema.specs.Sets.{outside}
-use Rattle.schema.proofs.Sifting.{sifted_start, sifted-leave, sifted-keep}
+use Rattle.schema.proofs.Sifting.{sifted_start, sifted_leave, sifted_keep}
 use Rattle.schema.proofs.part_sets.PartSets.drop_inside.Goals as goal
 
 abbrev inside : ColumnSet → ColumnSet → Bool
@@ -15,7 +15,7 @@ loop-i-init c = (sifted_start (inside c.args.set) c.args.self.now.sets, refl)
 pub loop-i-preserved-then-is-subset : goal.loop-i-preserved-then-is-subset
 loop-i-preserved-then-is-subset c =
     let h : c.loop-i.i < length c.loop-i.self.sets = omega (arith, c.loop-i.invariant.1) in (
-      sifted-leave (inside c.args.set) c.args.self.now.sets c.loop-i.i c.loop-i.len c.loop-i.self.sets c.loop-i.invariant.0 c.index-self-i.result h
+      sifted_leave (inside c.args.set) c.args.self.now.sets c.loop-i.i c.loop-i.len c.loop-i.self.sets c.loop-i.invariant.0 c.index-self-i.result h
           (sym c.if-is-subset.ensures),
       c.loop-i.invariant.1,
     )
@@ -23,7 +23,7 @@ loop-i-preserved-then-is-subset c =
 pub loop-i-preserved : goal.loop-i-preserved
 loop-i-preserved c =
     let h : c.loop-i.i < length c.loop-i.self.sets = omega (arith, c.loop-i.invariant.1) in (
-      sifted-keep (inside c.args.set) c.args.self.now.sets c.loop-i.i c.loop-i.len c.loop-i.self.sets c.loop-i.invariant.0 c.index-self-i.result h
+      sifted_keep (inside c.args.set) c.args.self.now.sets c.loop-i.i c.loop-i.len c.loop-i.self.sets c.loop-i.invariant.0 c.index-self-i.result h
           (sym c.if-is-subset.ensures),
       c.loop-i.invariant.1,
     )

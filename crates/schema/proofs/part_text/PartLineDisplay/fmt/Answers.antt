@@ -3,7 +3,7 @@ use Rattle.std.proofs.Output.{has_written_of_eq}
 use Rattle.std.proofs.lemmas.List.{drop_all}
 use Rattle.columns.specs.Shown.{listed}
 use Rattle.columns.specs.Sets.{cols}
-use Rattle.columns.proofs.Printed.{Led-but, none_led, one_led, skip_led, all_led}
+use Rattle.columns.proofs.Printed.{LedBut, none_led, one_led, skip_led, all_led}
 use Rattle.dependencies.specs.Tables.{Dep}
 use Rattle.dependencies.specs.Rules.{dep, deps}
 use Rattle.dependencies.specs.Shown.{rule_text}
@@ -33,16 +33,16 @@ loop-i-preserved g c =
     let lead : List ℕ = lead_text c.loop-i.lead in
     elim c.if-lies.branch [
       | then-lies+in-ok-write-2 w ↦
-          subst (λ v. Led-but took rule_text (codes " ") f0 v (lead_text c.if-lies.lead) left (codes " by ") all) (sym w.f-is)
-          (subst (λ v. Led-but took rule_text (codes " ") f0 w.write-then-lies.new.self (lead_text v) left (codes " by ") all) (sym w.lead-is)
+          subst (λ v. LedBut took rule_text (codes " ") f0 v (lead_text c.if-lies.lead) left (codes " by ") all) (sym w.f-is)
+          (subst (λ v. LedBut took rule_text (codes " ") f0 w.write-then-lies.new.self (lead_text v) left (codes " by ") all) (sym w.lead-is)
           (one_led took rule_text (codes " ") f0 c.loop-i.f w.write-then-lies.new.self lead (dep r) left before (codes " by ") all
           (own_next rs s i r c.loop-i-test.true e (sym in· ∙ w.if-lies.true)) c.loop-i.invariant
           (λ plain.
           has_written_of_eq took c.loop-i.f _ _ w.write-then-lies.new.self (ap (λ x. lead ++ rule_text (dep x)) (sym e))
           (w.in-ok-write-2.ensures.shows plain refl))))
       | else-lies w ↦
-          subst (λ v. Led-but took rule_text (codes " ") f0 v (lead_text c.if-lies.lead) left (codes " by ") all) (sym w.f-is)
-          (subst (λ v. Led-but took rule_text (codes " ") f0 c.loop-i.f (lead_text v) left (codes " by ") all) (sym w.lead-is)
+          subst (λ v. LedBut took rule_text (codes " ") f0 v (lead_text c.if-lies.lead) left (codes " by ") all) (sym w.f-is)
+          (subst (λ v. LedBut took rule_text (codes " ") f0 c.loop-i.f (lead_text v) left (codes " by ") all) (sym w.lead-is)
           (skip_led took rule_text (codes " ") f0 c.loop-i.f lead left before (codes " by ") all
           (own_skip rs s i r c.loop-i-test.true e (sym in· ∙ w.if-lies.false)) c.loop-i.invariant))
     ]

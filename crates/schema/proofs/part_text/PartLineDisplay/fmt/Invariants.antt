@@ -1,5 +1,5 @@
 use Rattle.std.proofs.Common.{codes}
-use Rattle.columns.proofs.Printed.{Led-but}
+use Rattle.columns.proofs.Printed.{LedBut}
 use Rattle.dependencies.specs.Rules.{deps}
 use Rattle.dependencies.specs.Shown.{rule_text}
 use Rattle.schema.specs.Shown.{lead_text}
@@ -10,5 +10,5 @@ use Rattle.schema.proofs.part_text.PartLineDisplay.fmt.Given as goal
 -- all own rules were written that are not left
 abbrev pub invariant-loop-i : goal.invariant-loop-i
 invariant-loop-i g l =
-    Led-but g.W.Write.write_str_gives rule_text (codes " ") l.initial.f l.f (lead_text l.lead) (deps (own_from l.self.rules.now l.set l.i))
+    LedBut g.W.Write.write_str_gives rule_text (codes " ") l.initial.f l.f (lead_text l.lead) (deps (own_from l.self.rules.now l.set l.i))
     (codes " by ") (deps (own l.self.rules.now l.set))

@@ -1,9 +1,9 @@
 use Rattle.std.proofs.Common.{drop}
 use Rattle.schema.specs.Plans.{plan_parts, plan_sets}
 use Rattle.schema.specs.Writing.{left_in}
-use Rattle.schema.proofs.PlanText.{Lines-but, parts_left}
+use Rattle.schema.proofs.PlanText.{LinesBut, parts_left}
 use Rattle.schema.proofs.plan_text.PlanDisplay.fmt.Given as goal
 
 -- all lines were written but those of the sets that are left, which own the rules that are left
 abbrev pub invariant-loop-i : goal.invariant-loop-i
-invariant-loop-i g l = Lines-but g.W.Write.write_str_gives l.initial.f l.f (parts_left (left_in l.rest) (drop l.i (plan_sets l.self))) (plan_parts l.self)
+invariant-loop-i g l = LinesBut g.W.Write.write_str_gives l.initial.f l.f (parts_left (left_in l.rest) (drop l.i (plan_sets l.self))) (plan_parts l.self)

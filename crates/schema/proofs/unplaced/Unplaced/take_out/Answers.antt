@@ -2,7 +2,7 @@ use Rattle.std.proofs.Common.{◌≡◌, ℕ, ◌<◌, Bool, length, take, sym, 
 use Rattle.columns.specs.declared.set.ColumnSet.{ColumnSet}
 use Rattle.dependencies.specs.declared.rules.Rule.{Rule}
 use Rattle.schema.specs.Writing.{inside, over}
-use Rattle.schema.proofs.Sifting.{sifted_start, sifted-leave, sifted-keep}
+use Rattle.schema.proofs.Sifting.{sifted_start, sifted_leave, sifted_keep}
 use Rattle.schema.proofs.unplaced.Unplaced.take_out.Goals as goal
 
 abbrev in_set : ColumnSet → Rule → Bool
@@ -14,7 +14,7 @@ loop-i-init c = (sifted_start (in_set c.args.set) c.args.self.now.rules, refl)
 pub loop-i-preserved-then-lies : goal.loop-i-preserved-then-lies
 loop-i-preserved-then-lies c =
     let h : c.loop-i.i < length c.loop-i.self.rules = omega (arith, c.loop-i.invariant.1) in (
-      sifted-leave (in_set c.args.set) c.args.self.now.rules c.loop-i.i c.loop-i.len c.loop-i.self.rules c.loop-i.invariant.0 c.index-self-i.result h
+      sifted_leave (in_set c.args.set) c.args.self.now.rules c.loop-i.i c.loop-i.len c.loop-i.self.rules c.loop-i.invariant.0 c.index-self-i.result h
           (sym c.if-lies.ensures),
       c.loop-i.invariant.1,
     )
@@ -22,7 +22,7 @@ loop-i-preserved-then-lies c =
 pub loop-i-preserved : goal.loop-i-preserved
 loop-i-preserved c =
     let h : c.loop-i.i < length c.loop-i.self.rules = omega (arith, c.loop-i.invariant.1) in (
-      sifted-keep (in_set c.args.set) c.args.self.now.rules c.loop-i.i c.loop-i.len c.loop-i.self.rules c.loop-i.invariant.0 c.index-self-i.result h
+      sifted_keep (in_set c.args.set) c.args.self.now.rules c.loop-i.i c.loop-i.len c.loop-i.self.rules c.loop-i.invariant.0 c.index-self-i.result h
           (sym c.if-lies.ensures),
       c.loop-i.invariant.1,
     )
