@@ -18,4 +18,4 @@ returns c d =
 pub invariant_of-result : goal.invariant_of-result
 invariant_of-result c =
     let i = c.args.c.index in
-    (or_lt 16 c.args.self.bits (1 * 2 ^ i % 65536) (omega arith) (mod_below (1 * 2 ^ i) 65536 (omega arith)), tt)
+    record { small = or_lt 16 c.args.self.bits (1 * 2 ^ i % 65536) (omega arith) (mod_below (1 * 2 ^ i) 65536 (omega arith)) }

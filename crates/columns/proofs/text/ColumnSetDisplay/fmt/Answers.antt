@@ -10,10 +10,10 @@ loop-c-init g c = none_led g.W.Write.write_str_gives decimal (codes " ") _ (code
 pub loop-c-preserved : goal.loop-c-preserved
 loop-c-preserved g c =
     one_led g.W.Write.write_str_gives decimal (codes " ") _ _ _ (codes " ") c.in-Some-take_first.c.index _ _ (codes " ") _ c.in-Some-take_first.ensures
-    c.loop-c.invariant (λ plain. c.in_ok-write-2.ensures.shows plain refl)
+    c.loop-c.invariant (λ plain. c.in_ok-write-2.ensures.writes plain refl)
 
 pub returns-clause-writes : goal.returns-clause-writes
 returns-clause-writes g c plain e =
     has_written_of_eq g.W.Write.write_str_gives _ _ _ _ (ap listed (sym c.in-Some.ensures))
     (all_led g.W.Write.write_str_gives decimal (codes " ") _ _ _ (decimal c.in-Some.first.index) (codes " ") _ (codes " ") _ c.in_default-take_first.ensures.0
-    (λ p. c.in_ok-write.ensures.shows p refl) c.loop-c.invariant plain)
+    (λ p. c.in_ok-write.ensures.writes p refl) c.loop-c.invariant plain)

@@ -33,7 +33,7 @@ loop-i-preserved g c =
           (next_fits n xs i c.loop-i-test.true w.in-Some.ensures.0) c.loop-i.invariant
           (λ plain.
           has_written_of_eq took c.loop-i.f _ _ w.write-in-Some.new.self (ap (λ v. lead ++ listed v) w.in-Some.ensures.1)
-          (w.in-ok-write-2.ensures.shows plain refl))))
+          (w.in-ok-write-2.ensures.writes plain refl))))
       | in-default w ↦
           subst (λ v. LedBut took listed (codes "; ") f0 v (key_lead c.match-from-bits.lead) left (codes " ") all) (sym w.f-is)
           (subst (λ v. LedBut took listed (codes "; ") f0 c.loop-i.f (key_lead v) left (codes " ") all) (sym w.lead-is)
@@ -46,4 +46,4 @@ returns-clause-writes g c plain e =
     let n = c.args.self.now.width.columns in
     let xs = c.args.self.now.keys.now in
     all_led g.W.Write.write_str_gives listed (codes "; ") _ _ _ (codes "keys") (key_lead c.loop-i.lead) (fitting n (drop c.loop-i.i xs)) (codes " ") (fitting n xs)
-    (ap (fitting n) (drop_all c.loop-i.i xs c.loop-i-test.false)) (λ p. c.in-ok-write.ensures.shows p refl) c.loop-i.invariant plain
+    (ap (fitting n) (drop_all c.loop-i.i xs c.loop-i-test.false)) (λ p. c.in-ok-write.ensures.writes p refl) c.loop-i.invariant plain

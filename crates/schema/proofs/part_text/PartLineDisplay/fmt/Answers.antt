@@ -39,7 +39,7 @@ loop-i-preserved g c =
           (own_next rs s i r c.loop-i-test.true e (sym in· ∙ w.if-lies.true)) c.loop-i.invariant
           (λ plain.
           has_written_of_eq took c.loop-i.f _ _ w.write-then-lies.new.self (ap (λ x. lead ++ rule_text (dep x)) (sym e))
-          (w.in-ok-write-2.ensures.shows plain refl))))
+          (w.in-ok-write-2.ensures.writes plain refl))))
       | else-lies w ↦
           subst (λ v. LedBut took rule_text (codes " ") f0 v (lead_text c.if-lies.lead) left (codes " by ") all) (sym w.f-is)
           (subst (λ v. LedBut took rule_text (codes " ") f0 c.loop-i.f (lead_text v) left (codes " by ") all) (sym w.lead-is)
@@ -54,4 +54,4 @@ returns-clause-writes g c plain e =
     let s = c.args.self.now.set in
     all_led g.W.Write.write_str_gives rule_text (codes " ") _ _ _ (listed (cols s)) (lead_text c.loop-i.lead) (deps (own_from rs s c.loop-i.i)) (codes " by ") (deps (own rs s))
     (ap (λ v. deps (own v s)) (drop_all c.loop-i.i rs c.loop-i-test.false))
-    (λ p. c.in-ok-write.ensures.shows p refl) c.loop-i.invariant plain
+    (λ p. c.in-ok-write.ensures.writes p refl) c.loop-i.invariant plain

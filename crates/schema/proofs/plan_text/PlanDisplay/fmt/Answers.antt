@@ -43,7 +43,7 @@ loop-i-preserved g c =
     (λ plain.
     has_written_of_eq took c.loop-i.f _ _ c.writeln.new.self
     (ap (λ (v : List Rule). text_of_part (part_of v s) ++ 10 ∷ []) c.rules-in-loop-i.ensures)
-    (c.in-ok-writeln.ensures.shows plain refl))
+    (c.in-ok-writeln.ensures.writes plain refl))
 
 pub returns-clause-writes : goal.returns-clause-writes
 returns-clause-writes g c plain e =
