@@ -5,7 +5,7 @@ use Rattle.dependencies.proofs.ByteRows.{row_length, row_start, row_head, row_at
 use Rattle.dependencies.proofs.bytes.rule_row.Goals as goal
 
 pub returns-then-bytes-lt2 : goal.returns-then-bytes-lt2
-returns-then-bytes-lt2 c = c.start-of.ensures ∙ sym (row_start c.args.bytes.now c.if-bytes-lt2.true)
+returns-then-bytes-lt2 c = c.start_of.ensures ∙ sym (row_start c.args.bytes.now c.if-bytes-lt2.true)
 
 pub loop-i-init : goal.loop-i-init
 loop-i-init c = (refl, row_head c.args.bytes.now c.if-bytes-lt2.false)

@@ -6,5 +6,5 @@ use Rattle.dependencies.proofs.bytes.rules_from_bytes.Goals as goal
 
 pub returns : goal.returns
 returns c =
-    reads_cut (row_of_bytes c.args.bytes.now) c.read-rules.result
-    (subst (λ (xs : List ℕ). Reads xs c.read-rules.result) (c.numbers.ensures ∙ c.rule-row-row.ensures) c.read-rules.ensures)
+    reads_cut (row_of_bytes c.args.bytes.now) c.read_rules.result
+    (subst (λ (xs : List ℕ). Reads xs c.read_rules.result) (c.numbers.ensures ∙ c.rule_row-row.ensures) c.read_rules.ensures)

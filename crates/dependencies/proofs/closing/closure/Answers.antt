@@ -1,5 +1,5 @@
-use Rattle.std.proofs.Common.{◌≡◌, ℕ, suc, true, false, sym, refl, ap, ◌∙◌}
-use Rattle.std.proofs.lemmas.Bool.{both_ways}
+use Rattle.std.proofs.Common.{◌≡◌, ℕ, suc, eqb, sym, refl, ap, ◌∙◌}
+use Rattle.std.proofs.lemmas.Bool.{both_ways, eqb-true, eq-eqb}
 use Rattle.columns.specs.Cols.{Same, Cols, has}
 use Rattle.columns.specs.Sets.{cols}
 use Rattle.columns.proofs.SetNumbers.{same_cols}
@@ -19,12 +19,12 @@ returns-then-eq c =
     let ds = deps c.args.rules.now in
     let first = cols c.args.start in
     let all = c.loop-next.all in
-    let next = c.one-round-next.result in
+    let next = c.one_round-next.result in
     let k = c.loop-next.invariant.0 in
     let reached : Cols = rounds k ds first in
     let there : Same (cols all) reached = c.loop-next.invariant.1 in
-    let same : Same (cols next) (cols all) = same_cols next all (c.if-eq.ensures.0 refl) in
-    let still : Same (round ds (cols all)) (cols all) = λ d. sym (c.one-round-next.ensures d) ∙ same d in
+    let same : Same (cols next) (cols all) = same_cols next all (eqb-true next.bits all.bits (sym c.if-eq.ensures)) in
+    let still : Same (round ds (cols all)) (cols all) = λ d. sym (c.one_round-next.ensures d) ∙ same d in
     let rests : Same (round ds reached) reached = λ d. sym (round_same ds (cols all) reached there d) ∙ still d ∙ there d in
     closes ds first (cols next)
     (same_trans (cols next) (cols all) (closure ds first) same (same_trans (cols all) reached (closure ds first) there (rest_is_closure k ds first rests)))
@@ -33,8 +33,8 @@ pub loop-next-smaller : goal.loop-next-smaller
 loop-next-smaller c =
     let ds = deps c.args.rules.now in
     let all = c.loop-next.all in
-    let next = c.one-round-next.result in
-    grows all next (λ d h. c.one-round-next.ensures d ∙ round_grows ds (cols all) d h) (λ e. both_ways false refl (c.if-eq.ensures.1 e))
+    let next = c.one_round-next.result in
+    grows all next (λ d h. c.one_round-next.ensures d ∙ round_grows ds (cols all) d h) (λ e. both_ways (eqb next.bits all.bits) (sym c.if-eq.ensures) (eq-eqb next.bits all.bits e))
 
 pub loop-next-preserved : goal.loop-next-preserved
 loop-next-preserved c =
@@ -42,4 +42,4 @@ loop-next-preserved c =
     let all = c.loop-next.all in
     let k = c.loop-next.invariant.0 in
     let first = cols c.args.start in
-    (suc k, λ d. c.one-round-next.ensures d ∙ round_same ds (cols all) (rounds k ds first) c.loop-next.invariant.1 d ∙ ap (λ (ys : Cols). has ys d) (sym (rounds_last k ds first)))
+    (suc k, λ d. c.one_round-next.ensures d ∙ round_same ds (cols all) (rounds k ds first) c.loop-next.invariant.1 d ∙ ap (λ (ys : Cols). has ys d) (sym (rounds_last k ds first)))

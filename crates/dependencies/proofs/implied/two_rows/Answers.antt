@@ -11,7 +11,7 @@ pub loop-c-preserved : goal.loop-c-preserved
 loop-c-preserved c =
     let small : c.index.result < 16 = omega (arith, c.index.ensures, c.in-Some.c.small) in
     half_turn c.loop-c.second c.index.result (cols c.loop-c.rest) _ (cols c.args.agree) small (cols_rising c.loop-c.rest)
-    (c.in-Some.ensures ∙ ap (λ (i : ℕ). i ∷ cols c.take-first.new.self) (sym c.index.ensures)) c.loop-c.invariant
+    (c.in-Some.ensures ∙ ap (λ (i : ℕ). i ∷ cols c.take_first.new.self) (sym c.index.ensures)) c.loop-c.invariant
 
 pub returns : goal.returns
-returns c n l = (zeros n l, half_end c.loop-c.second (cols c.loop-c.rest) (cols c.args.agree) c.in-default.ensures.0 c.loop-c.invariant n l)
+returns c n l = (zeros n l, half_end c.loop-c.second (cols c.loop-c.rest) (cols c.args.agree) c.in_default.ensures.0 c.loop-c.invariant n l)

@@ -18,17 +18,17 @@ pub loop-i-init : goal.loop-i-init
 unfolding deps
 loop-i-init c = (left_start c.args.width.columns c.args.count (drop 2 c.args.lent.now), refl)
 
-pub returns-in-default : goal.returns-in-default
-returns-in-default c =
+pub returns-in_default : goal.returns-in_default
+returns-in_default c =
     let xs = c.args.lent.now in
     left_bad c.args.width.columns c.args.count (drop 2 xs) c.loop-i.i _ c.loop-i.invariant.0 c.loop-i-test.true
-    (omega (arith, left_here xs c.loop-i.i, c.in-default.ensures))
+    (omega (arith, left_here xs c.loop-i.i, c.in_default.ensures))
 
-pub returns-in-default-from-bits : goal.returns-in-default-from-bits
-returns-in-default-from-bits c =
+pub returns-in_default-from_bits : goal.returns-in_default-from_bits
+returns-in_default-from_bits c =
     let xs = c.args.lent.now in
     right_bad c.args.width.columns c.args.count (drop 2 xs) c.loop-i.i _ c.loop-i.invariant.0 c.loop-i-test.true
-    (omega (arith, left_here xs c.loop-i.i, c.in-Some.ensures.0)) (omega (arith, right_here xs c.loop-i.i, c.in-default-from-bits.ensures))
+    (omega (arith, left_here xs c.loop-i.i, c.in-Some.ensures.0)) (omega (arith, right_here xs c.loop-i.i, c.in_default-from_bits.ensures))
 
 pub loop-i-preserved : goal.loop-i-preserved
 loop-i-preserved c =
@@ -37,23 +37,23 @@ loop-i-preserved c =
     let i = c.loop-i.i in
     let rs : List Rule = c.loop-i.rules in
     let a = c.in-Some.ensures in
-    let b = c.in-Some-from-bits.ensures in
-    let r : Rule = record { left = c.in-Some.left; right = c.in-Some-from-bits.right } in
+    let b = c.in-Some-from_bits.ensures in
+    let r : Rule = record { left = c.in-Some.left; right = c.in-Some-from_bits.right } in
     let small : i < length rs = omega (arith, c.loop-i.invariant.1) in
     let left : cols c.in-Some.left ≡ set_in 0 n (left_at (drop 2 xs) i) = a.1 ∙ ap (set_in 0 n) (sym (left_here xs i)) in
-    let right : cols c.in-Some-from-bits.right ≡ set_in 0 n (right_at (drop 2 xs) i) = b.1 ∙ ap (set_in 0 n) (sym (right_here xs i)) in (
+    let right : cols c.in-Some-from_bits.right ≡ set_in 0 n (right_at (drop 2 xs) i) = b.1 ∙ ap (set_in 0 n) (sym (right_here xs i)) in (
       subst (λ (z : List Dep). Left n c.args.count (drop 2 xs) (i + 1) z)
-          (deps_read n (drop 2 xs) i (take i rs) (take (i + 1) (set rs i r)) c.in-Some.left c.in-Some-from-bits.right left right (take_more_set rs i r small))
+          (deps_read n (drop 2 xs) i (take i rs) (take (i + 1) (set rs i r)) c.in-Some.left c.in-Some-from_bits.right left right (take_more_set rs i r small))
           (left_turn n c.args.count (drop 2 xs) i (deps (take i rs)) c.loop-i.invariant.0 c.loop-i-test.true
           (omega (arith, left_here xs i, a.0)) (omega (arith, right_here xs i, b.0))),
       length-set rs i r ∙ c.loop-i.invariant.1,
     )
 
-pub invariant-of-result : goal.invariant-of-result
-invariant-of-result c =
+pub invariant_of-result : goal.invariant_of-result
+invariant_of-result c =
     let n = c.args.width.columns in
     let all = read_all n c.args.count (drop 2 c.args.lent.now) c.loop-i.i c.loop-i.rules c.loop-i.invariant.0 (omega arith) in
-    (c.requires.few, (ap (is_proper n) all.1 ∙ rules_proper n c.args.count (drop 2 c.args.lent.now), tt))
+    record { few = c.requires.few; proper = ap (is_proper n) all.1 ∙ rules_proper n c.args.count (drop 2 c.args.lent.now) }
 
 pub returns : goal.returns
 returns c =
