@@ -20,7 +20,7 @@ pub(crate) trait Redundancy: Copy {
 // What is kept stands in the order in which it stood.
 pub(crate) fn drop_redundant<T: Redundancy>(queue: &mut Queue<T>)
     requires { length (queued queue.old) ≤ spare queue.old }
-    ensures { Trimmed redundant (queued queue.old) (queued queue.new) }
+    ensures { Trimmed T.redundant (queued queue.old) (queued queue.new) }
 {
     let mut left = queue.items().len();
     while left > 0 {

@@ -27,8 +27,8 @@ loop-rule-init c =
 length_rules : (set : RuleSet) (rules : List Rule) → rules ≡ rules_of set → length rules ≤ set.count
 length_rules set rules e = omega (arith, ap length e, length-take set.count set.rules)
 
-pub split-rule-requires : goal.split-rule-requires
-split-rule-requires c =
+pub split_rule-requires : goal.split_rule-requires
+split_rule-requires c =
     let set = c.args.set.now in
     let n : length c.rules-rules.result.now ≤ set.count = length_rules set c.rules-rules.result.now c.rules-rules.ensures in
     let i : c.loop-rule.rule-index ≤ 32 = omega (arith, n, set.few) in
@@ -49,10 +49,10 @@ loop-rule-preserved c =
     let given-all : In (dep x) (deps (rules_of set)) = subst (λ (v : List Rule). In (dep x) (deps v)) c.rules-rules.ensures given in
     let short : length (cols x.right) ≤ w = set_short_in x.right w (proper_at w (deps (rules_of set)) set.proper (dep x) given-all).1 in
     let m : w * (i + 1) ≡ w * i + w = ap (λ (k : ℕ). w * k) (add-one i) ∙ mul-suc w i in
-    let gs = deps (queued c.split-rule.new.queue) in (
+    let gs = deps (queued c.split_rule.new.queue) in (
       subst (λ (v : List Dep). AllSplit ds v gs) (sym e)
-          (all_turn ds (deps (take i xs)) (deps (queued c.loop-rule.queue)) (dep x) gs given c.loop-rule.invariant.0 c.split-rule.ensures.says),
-      omega (arith, c.split-rule.ensures.room, c.loop-rule.invariant.1, short, m),
+          (all_turn ds (deps (take i xs)) (deps (queued c.loop-rule.queue)) (dep x) gs given c.loop-rule.invariant.0 c.split_rule.ensures.says),
+      omega (arith, c.split_rule.ensures.room, c.loop-rule.invariant.1, short, m),
     )
 
 pub returns : goal.returns

@@ -22,19 +22,19 @@ loop-b-preserved c =
     let ds = deps c.args.rules.now in
     let fs = deps (queued c.args.queue.now) in
     let old = queued c.loop-b.queue in
-    let rest = cols c.take-first.new.self in
-    let x : Rule = c.fine-rule.result in
+    let rest = cols c.take_first.new.self in
+    let x : Rule = c.fine_rule.result in
     let e : deps (queued c.push.new.self) ≡ deps old ++ fixing (cols x.left) c.in-Some.b.index ∷ []
-    = ap deps c.push.ensures.0 ∙ deps_push old x ∙ ap (λ (v : Cols). deps old ++ record { left = cols x.left; right = v } ∷ []) c.fine-rule.ensures.right in (
+    = ap deps c.push.ensures.0 ∙ deps_push old x ∙ ap (λ (v : Cols). deps old ++ record { left = cols x.left; right = v } ∷ []) c.fine_rule.ensures.right in (
       subst (λ (v : List Dep). Splitting ds (dep c.args.rule) rest fs v) (sym e)
           (splitting_turn ds (dep c.args.rule) c.in-Some.b.index (cols c.loop-b.todo) rest fs (deps old) (cols x.left) c.in-Some.ensures
-          c.loop-b.invariant.0 (cols_rising x.left) c.fine-rule.ensures.left),
+          c.loop-b.invariant.0 (cols_rising x.left) c.fine_rule.ensures.left),
       omega (arith, c.push.ensures.1, c.loop-b.invariant.1, ap length c.in-Some.ensures),
     )
 
 pub returns : goal.returns
 returns c =
-    let e = c.in-default.ensures.0 in
+    let e = c.in_default.ensures.0 in
     record {
       says = splitting_end (deps c.args.rules.now) (dep c.args.rule) (cols c.loop-b.todo) _ _ e c.loop-b.invariant.0;
       room = omega (arith, ap length e, c.loop-b.invariant.1);

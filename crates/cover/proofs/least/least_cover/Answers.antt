@@ -19,12 +19,12 @@ at_most set = mul-le-mul set.width.narrow set.few
 length_queued : (q : Queue Rule) → length (queued q) + spare q ≤ 1024
 length_queued q = omega (arith, length-take (q.end - q.first) (drop q.first q.cells), q.within)
 
-pub drop-redundant-requires : goal.drop-redundant-requires
-drop-redundant-requires c = (omega arith, omega (arith, length_queued c.split-queue.result, c.split-queue.ensures.room, at_most c.args.set.now))
+pub drop_redundant-requires : goal.drop_redundant-requires
+drop_redundant-requires c = (omega arith, omega (arith, length_queued c.split-queue.result, c.split-queue.ensures.room, at_most c.args.set.now))
 
-pub cover-of-requires : goal.cover-of-requires
-cover-of-requires c =
-    let few = kept_few (deps (rules_of c.args.set.now)) (queued c.split-queue.result) (queued c.drop-redundant.new.queue) c.split-queue.ensures.says c.drop-redundant.ensures in
+pub cover_of-requires : goal.cover_of-requires
+cover_of-requires c =
+    let few = kept_few (deps (rules_of c.args.set.now)) (queued c.split-queue.result) (queued c.drop_redundant.new.queue) c.split-queue.ensures.says c.drop_redundant.ensures in
     omega (arith, ap length c.items.ensures, few, length_queued c.split-queue.result, c.split-queue.ensures.room, at_most c.args.set.now)
 
 pub returns : goal.returns
@@ -32,10 +32,10 @@ returns c =
     let set = c.args.set.now in
     let ds = deps (rules_of set) in
     let fs = queued c.split-queue.result in
-    let kept = queued c.drop-redundant.new.queue in
-    let e = c.cover-of.ensures ∙ c.items.ensures in
+    let kept = queued c.drop_redundant.new.queue in
+    let e = c.cover_of.ensures ∙ c.items.ensures in
     let a = c.split-queue.ensures.says in
-    let t = c.drop-redundant.ensures in
+    let t = c.drop_redundant.ensures in
     record {
       least = subst (λ (v : List Rule). Least ds (deps v)) (sym e) (trimmed_least ds fs kept a t);
       ordered = subst (λ (v : List Rule). Narrowed (singles ds) (deps v)) (sym e) (kept_ordered ds fs kept a t);

@@ -17,13 +17,13 @@ returns c =
     let ds = deps (rules_of set) in
     let rs = c.rules-rules.result.now in
     let row = c.args.row.now in
-    let cover = c.least-cover-cover.result in
+    let cover = c.least_cover-cover.result in
     let e = c.rules-rules.ensures in
-    let least : Least ds (deps rs) = subst (λ (v : List Rule). Least ds (deps v)) (sym e) c.least-cover-cover.ensures.least in
-    let ordered : Narrowed (singles ds) (deps rs) = subst (λ (v : List Rule). Narrowed (singles ds) (deps v)) (sym e) c.least-cover-cover.ensures.ordered in
-    let proper : is_proper n (deps rs) ≡ true = subst (λ (v : List Rule). is_proper n (deps v) ≡ true) (sym e) c.least-cover-cover.ensures.proper in
+    let least : Least ds (deps rs) = subst (λ (v : List Rule). Least ds (deps v)) (sym e) c.least_cover-cover.ensures.least in
+    let ordered : Narrowed (singles ds) (deps rs) = subst (λ (v : List Rule). Narrowed (singles ds) (deps v)) (sym e) c.least_cover-cover.ensures.ordered in
+    let proper : is_proper n (deps rs) ≡ true = subst (λ (v : List Rule). is_proper n (deps v) ≡ true) (sym e) c.least_cover-cover.ensures.proper in
     let room : 1 + 2 * length rs ≤ length row = omega (arith, ap length e, length-take cover.count cover.rules, cover.few, c.requires) in
     record {
-      least = subst (λ (v : List ℕ). LeastRow n ds row (length rs) v) (sym c.write-rules.ensures) (written_row n ds row rs set.width.narrow proper least ordered room);
-      few = omega (arith, ap length e, c.least-cover-cover.ensures.few);
+      least = subst (λ (v : List ℕ). LeastRow n ds row (length rs) v) (sym c.write_rules.ensures) (written_row n ds row rs set.width.narrow proper least ordered room);
+      few = omega (arith, ap length e, c.least_cover-cover.ensures.few);
     }

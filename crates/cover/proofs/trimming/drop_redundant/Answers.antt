@@ -3,7 +3,7 @@ use Rattle.cover.specs.Queued.{queued, spare}
 use Rattle.cover.specs.declared.queue.Queue.{Queue}
 use Rattle.cover.proofs.Keeping.{Turning, turning_start, turning_drop, turning_keep, turning_end, turning_some}
 use Rattle.cover.proofs.trimming.drop_redundant.Goals as goal
-use Rattle.cover.proofs.trimming.drop_redundant.Goals.{then-not-is-redundant, else-not-is-redundant}
+use Rattle.cover.proofs.trimming.drop_redundant.Goals.{then-not-is_redundant, else-not-is_redundant}
 
 pub loop-left-init : goal.loop-left-init
 loop-left-init g c =
@@ -15,9 +15,9 @@ loop-left-init g c =
       omega (arith, n, c.requires),
     )
 
-pub returns-in-default : goal.returns-in-default
-returns-in-default g c =
-    absurd (turning_some g.T.Redundancy.redundant g.met.T.Redundancy.laws _ _ c.loop-left.left c.loop-left.invariant.0 (omega arith) c.in-default.ensures.0)
+pub returns-in_default : goal.returns-in_default
+returns-in_default g c =
+    absurd (turning_some g.T.Redundancy.redundant g.met.T.Redundancy.laws _ _ c.loop-left.left c.loop-left.invariant.0 (omega arith) c.in_default.ensures.0)
 
 pub push-requires : goal.push-requires
 push-requires g c = omega (arith, c.in-Some.ensures.1, c.loop-left.invariant.1)
@@ -31,17 +31,17 @@ loop-left-preserved g c =
     let h : 0 < c.loop-left.left = omega arith in
     let front = c.in-Some.ensures in
     let Goal : Queue g.row.T.Denot → Type 0 = λ q. Turning R L fs (queued q) (c.loop-left.left - 1) × (c.loop-left.left - 1 ≤ spare q) in
-    elim c.if-not-is-redundant.branch [
-      | then-not-is-redundant w ↦
+    elim c.if-not-is_redundant.branch [
+      | then-not-is_redundant w ↦
           subst Goal (sym w.queue-is) (
-            turning_keep R L fs _ c.loop-left.left c.in-Some.item (queued c.take-first.new.self) _ t h front.0
-                (λ f. w.if-not-is-redundant.ensures (subst (λ v. R v c.in-Some.item) (sym c.items.ensures) f)) w.push.ensures.0,
+            turning_keep R L fs _ c.loop-left.left c.in-Some.item (queued c.take_first.new.self) _ t h front.0
+                (λ f. w.if-not-is_redundant.ensures (subst (λ v. R v c.in-Some.item) (sym c.items.ensures) f)) w.push.ensures.0,
             omega (arith, w.push.ensures.1, front.1, c.loop-left.invariant.1),
           )
-      | else-not-is-redundant w ↦
+      | else-not-is_redundant w ↦
           subst Goal (sym w.queue-is) (
-            turning_drop R L fs _ c.loop-left.left c.in-Some.item (queued c.take-first.new.self) t h front.0
-                (subst (λ v. R v c.in-Some.item) c.items.ensures w.if-not-is-redundant.ensures),
+            turning_drop R L fs _ c.loop-left.left c.in-Some.item (queued c.take_first.new.self) t h front.0
+                (subst (λ v. R v c.in-Some.item) c.items.ensures w.if-not-is_redundant.ensures),
             omega (arith, front.1, c.loop-left.invariant.1),
           )
     ]

@@ -2,10 +2,10 @@ use Rattle.dependencies.specs.Rules.{deps}
 use Rattle.keys.proofs.Forked.{first_leaf, first_with, first_without}
 use Rattle.keys.proofs.first.+first_in.Goals as goal
 
-pub returns-in-default : goal.returns-in-default
-returns-in-default t c =
+pub returns-in_default : goal.returns-in_default
+returns-in_default t c =
     let h = c.in-Fork.halves in
-    first_without (deps c.args.rules.now) c.args.branch h.with h.without c.in-Fork.ensures.0 c.first-in-in-default.result c.in-default.ensures c.first-in-in-default.ensures
+    first_without (deps c.args.rules.now) c.args.branch h.with h.without c.in-Fork.ensures.0 c.first_in-in_default.result c.in_default.ensures c.first_in-in_default.ensures
 
 pub returns-in-Leaf : goal.returns-in-Leaf
 returns-in-Leaf t c = first_leaf (deps c.args.rules.now) c.args.branch c.in-Leaf.ensures.0 c.in-Leaf.ensures.1

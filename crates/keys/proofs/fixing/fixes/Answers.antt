@@ -8,5 +8,5 @@ use Rattle.keys.proofs.fixing.fixes.Goals as goal
 pub returns : goal.returns
 returns c =
     let p = cols c.args.rule.right in
-    c.is-subset.ensures
+    c.is_subset.ensures
     ∙ all_same p p (cols c.closure.result) (closure (deps c.args.rules.now) (cols c.args.rule.left)) (λ d. refl) c.closure.ensures.computed

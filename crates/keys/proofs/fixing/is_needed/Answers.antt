@@ -18,7 +18,7 @@ loop-c-preserved c =
     let f : ℕ → Bool = λ a. not (does_fix ds (less s a) p) in
     let i = c.in-Some.c.index in
     let h : f i ≡ true = ap not (sym (fixes_less ds p s (cols c.without-left.result) i c.without-left.ensures) ∙ sym c.if-fixes.ensures) in
-    c.loop-c.invariant ∙ every_on (cols c.loop-c.rest) (cols c.take-first.new.self) i f c.in-Some.ensures h
+    c.loop-c.invariant ∙ every_on (cols c.loop-c.rest) (cols c.take_first.new.self) i f c.in-Some.ensures h
 
 pub loop-c-smaller : goal.loop-c-smaller
 loop-c-smaller c = omega (arith, ap length c.in-Some.ensures)
@@ -31,9 +31,9 @@ returns-then-fixes c =
     let f : ℕ → Bool = λ a. not (does_fix ds (less s a) p) in
     let i = c.in-Some.c.index in
     let h : f i ≡ false = ap not (sym (fixes_less ds p s (cols c.without-left.result) i c.without-left.ensures) ∙ sym c.if-fixes.ensures) in
-    sym (c.loop-c.invariant ∙ every_stops (cols c.loop-c.rest) (cols c.take-first.new.self) i f c.in-Some.ensures h)
+    sym (c.loop-c.invariant ∙ every_stops (cols c.loop-c.rest) (cols c.take_first.new.self) i f c.in-Some.ensures h)
 
 pub returns : goal.returns
 returns c =
     let f : ℕ → Bool = λ a. not (does_fix (deps c.args.rules.now) (less (cols c.args.rule.left) a) (cols c.args.rule.right)) in
-    sym (c.loop-c.invariant ∙ ap (λ v. every v f) c.in-default.ensures.0)
+    sym (c.loop-c.invariant ∙ ap (λ v. every v f) c.in_default.ensures.0)

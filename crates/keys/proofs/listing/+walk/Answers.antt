@@ -10,11 +10,11 @@ returns-in-Leaf t c =
 pub returns-in-Dead : goal.returns-in-Dead
 returns-in-Dead t c = walked_dead (deps c.args.rules.now) c.args.branch c.args.out.now c.args.count c.in-Dead.ensures
 
-pub returns-in-default : goal.returns-in-default
-returns-in-default t c =
+pub returns-in_default : goal.returns-in_default
+returns-in_default t c =
     let h = c.in-Fork.halves in
     walked_stop (deps c.args.rules.now) c.args.branch h.with h.without c.in-Fork.ensures.0 c.in-Fork.ensures.1
-    c.args.out.now c.args.count c.walk.new.out c.in-default.ensures
+    c.args.out.now c.args.count c.walk.new.out c.in_default.ensures
 
 pub returns-in-Some : goal.returns-in-Some
 returns-in-Some t c =

@@ -4,28 +4,30 @@ use Rattle.columns.proofs.SetNumbers.{cols_rising}
 use Rattle.keys.proofs.Dividing.{rest_within, rest_apart, with_inside, with_apart}
 use Rattle.keys.proofs.branch.Branch.divide.Goals as goal
 
-pub invariant-of-with : goal.invariant-of-with
-invariant-of-with c =
+pub invariant_of-with : goal.invariant_of-with
+invariant_of-with c =
     let b = c.args.self in
     let s = cols b.chosen in
     let l = cols b.free in
     let t = cols c.with.result in
-    let m = cols c.take-first.new.self in
+    let m = cols c.take_first.new.self in
     let i = c.in-Some.c.index in
-    let e = c.in-Some.ensures in (
-      with_inside s l t m i e (cols b.target) c.with.ensures b.inside b.within,
-      (rest_within s l t m i e (cols b.target) b.within, (with_apart s l t m i e c.with.ensures (cols_rising b.free) b.apart, tt)),
-    )
+    let e = c.in-Some.ensures in
+    record {
+      inside = with_inside s l t m i e (cols b.target) c.with.ensures b.inside b.within;
+      within = rest_within s l t m i e (cols b.target) b.within;
+      apart = with_apart s l t m i e c.with.ensures (cols_rising b.free) b.apart;
+    }
 
-pub invariant-of-without : goal.invariant-of-without
-invariant-of-without c =
+pub invariant_of-without : goal.invariant_of-without
+invariant_of-without c =
     let b = c.args.self in
     let s = cols b.chosen in
     let l = cols b.free in
-    let m = cols c.take-first.new.self in
+    let m = cols c.take_first.new.self in
     let i = c.in-Some.c.index in
     let e = c.in-Some.ensures in
-    (b.inside, (rest_within s l s m i e (cols b.target) b.within, (rest_apart s l s m i e b.apart, tt)))
+    record { inside = b.inside; within = rest_within s l s m i e (cols b.target) b.within; apart = rest_apart s l s m i e b.apart }
 
 pub returns : goal.returns
 returns c =

@@ -8,7 +8,7 @@ use Rattle.columns.proofs.Printed.{LedBut, none_led, one_led, skip_led, all_led}
 use Rattle.keys.specs.Shown.{key_lead, fitting}
 use Rattle.keys.proofs.FittingKeys.{next_fits, next_not}
 use Rattle.keys.proofs.text.KeysLineDisplay.fmt.Goals as goal
-use Rattle.keys.proofs.text.KeysLineDisplay.fmt.Goals.{in-Some+in-ok-write-2, in-default}
+use Rattle.keys.proofs.text.KeysLineDisplay.fmt.Goals.{in-Some+in_ok-write-2, in_default}
 
 pub loop-i-init : goal.loop-i-init
 loop-i-init g c = none_led g.W.Write.write_str_gives listed (codes "; ") _ (codes " ") _ _ refl
@@ -25,20 +25,20 @@ loop-i-preserved g c =
     let all : List Cols = fitting n xs in
     let lead : List ℕ = key_lead c.loop-i.lead in
     let key : Cols = set_in 0 n (get_or xs i 0) in
-    elim c.match-from-bits.branch [
-      | in-Some+in-ok-write-2 w ↦
-          subst (λ v. LedBut took listed (codes "; ") f0 v (key_lead c.match-from-bits.lead) left (codes " ") all) (sym w.f-is)
+    elim c.match-from_bits.branch [
+      | in-Some+in_ok-write-2 w ↦
+          subst (λ v. LedBut took listed (codes "; ") f0 v (key_lead c.match-from_bits.lead) left (codes " ") all) (sym w.f-is)
           (subst (λ v. LedBut took listed (codes "; ") f0 w.write-in-Some.new.self (key_lead v) left (codes " ") all) (sym w.lead-is)
           (one_led took listed (codes "; ") f0 c.loop-i.f w.write-in-Some.new.self lead key left before (codes " ") all
           (next_fits n xs i c.loop-i-test.true w.in-Some.ensures.0) c.loop-i.invariant
           (λ plain.
           has_written_of_eq took c.loop-i.f _ _ w.write-in-Some.new.self (ap (λ v. lead ++ listed v) w.in-Some.ensures.1)
-          (w.in-ok-write-2.ensures.writes plain refl))))
-      | in-default w ↦
-          subst (λ v. LedBut took listed (codes "; ") f0 v (key_lead c.match-from-bits.lead) left (codes " ") all) (sym w.f-is)
+          (w.in_ok-write-2.ensures.writes plain refl))))
+      | in_default w ↦
+          subst (λ v. LedBut took listed (codes "; ") f0 v (key_lead c.match-from_bits.lead) left (codes " ") all) (sym w.f-is)
           (subst (λ v. LedBut took listed (codes "; ") f0 c.loop-i.f (key_lead v) left (codes " ") all) (sym w.lead-is)
           (skip_led took listed (codes "; ") f0 c.loop-i.f lead left before (codes " ") all
-          (next_not n xs i c.loop-i-test.true w.in-default.ensures) c.loop-i.invariant))
+          (next_not n xs i c.loop-i-test.true w.in_default.ensures) c.loop-i.invariant))
     ]
 
 pub returns-clause-writes : goal.returns-clause-writes
@@ -46,4 +46,4 @@ returns-clause-writes g c plain e =
     let n = c.args.self.now.width.columns in
     let xs = c.args.self.now.keys.now in
     all_led g.W.Write.write_str_gives listed (codes "; ") _ _ _ (codes "keys") (key_lead c.loop-i.lead) (fitting n (drop c.loop-i.i xs)) (codes " ") (fitting n xs)
-    (ap (fitting n) (drop_all c.loop-i.i xs c.loop-i-test.false)) (λ p. c.in-ok-write.ensures.writes p refl) c.loop-i.invariant plain
+    (ap (fitting n) (drop_all c.loop-i.i xs c.loop-i-test.false)) (λ p. c.in_ok-write.ensures.writes p refl) c.loop-i.invariant plain
