@@ -16,11 +16,11 @@ pub returns : goal.returns
 returns c =
     let t : RuleSet = c.args.set.now in
     let n : ℕ = t.width.columns in
-    let k : ColumnSet = c.first-key.result in
+    let k : ColumnSet = c.first_key.result in
     let none : does_some_fix n (deps (rules_of t)) (sets_in c.args.sets.now) ≡ false
-    = sym (c.if-some-fixes.ensures ∙ ap (λ (v : List ColumnSet). does_some_fix n (deps (rules_of t)) v) c.sets.ensures) in
+    = sym (c.if-some_fixes.ensures ∙ ap (λ (v : List ColumnSet). does_some_fix n (deps (rules_of t)) v) c.sets.ensures) in
     let all : cols c.all.result ≡ columns 0 n = c.all.ensures ∙ ap (λ (w : Width). columns 0 w.columns) c.width.ensures in
     let key : Key (deps (rules_of t)) (columns 0 n) (cols k)
     = subst (λ (v : Cols). Key (deps (rules_of t)) v (cols k)) all
-    (subst (λ (v : List Rule). Key (deps v) (cols c.all.result) (cols k)) c.rules.ensures c.first-key.ensures.key) in
+    (subst (λ (v : List Rule). Key (deps v) (cols c.all.result) (cols k)) c.rules.ensures c.first_key.ensures.key) in
     (inr (none, (k, key, c.add.ensures.0)), c.add.ensures.1)

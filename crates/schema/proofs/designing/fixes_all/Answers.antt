@@ -17,4 +17,4 @@ returns c =
     = λ d. ap (λ (v : Cols). has v d) c.all.ensures ∙ ap (λ (w : Width). has (columns 0 w.columns) d) c.width.ensures in
     let fixed : Same (cols c.closure.result) (closure_of (deps (rules_of c.args.set.now)) x)
     = λ d. c.closure.ensures.computed d ∙ ap (λ (v : List Rule). has (closure_of (deps v) x) d) c.rules.ensures in
-    c.is-subset.ensures ∙ all_same _ _ _ _ all fixed
+    c.is_subset.ensures ∙ all_same _ _ _ _ all fixed

@@ -20,12 +20,12 @@ fixes t s = does_fix (deps (rules_of t)) (cols s) (columns 0 t.width.columns)
 abbrev some : RuleSet → List ColumnSet → Bool
 some t ss = does_some_fix t.width.columns (deps (rules_of t)) ss
 
-pub returns-then-fixes-all : goal.returns-then-fixes-all
-returns-then-fixes-all c =
+pub returns-then-fixes_all : goal.returns-then-fixes_all
+returns-then-fixes_all c =
     let xs = c.args.parts.now in
     let i = c.loop-part.part-index in
     let x : ColumnSet = c.part-item.result in
-    sym (any_from xs (fixes c.args.set.now) x (subst (λ (v : ColumnSet). In v xs) (sym c.part-item.is) (in_at xs i x c.loop-part-test.true)) (sym c.if-fixes-all.ensures))
+    sym (any_from xs (fixes c.args.set.now) x (subst (λ (v : ColumnSet). In v xs) (sym c.part-item.is) (in_at xs i x c.loop-part-test.true)) (sym c.if-fixes_all.ensures))
 
 pub loop-part-preserved : goal.loop-part-preserved
 loop-part-preserved c =
@@ -36,7 +36,7 @@ loop-part-preserved c =
     ap (λ (v : List ColumnSet). some t v) (take_more xs i x c.loop-part-test.true ∙ ap (λ (y : ColumnSet). take i xs ++ y ∷ []) (sym c.part-item.is))
     ∙ any_push (fixes t) (take i xs) x
     ∙ ap (λ (b : Bool). b || fixes t x) c.loop-part.invariant
-    ∙ sym c.if-fixes-all.ensures
+    ∙ sym c.if-fixes_all.ensures
 
 pub returns : goal.returns
 returns c =

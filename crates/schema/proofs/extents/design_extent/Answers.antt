@@ -5,9 +5,9 @@ use Rattle.schema.proofs.extents.design_extent.Goals as goal
 pub loop-init : goal.loop-init
 loop-init c = ended_start c.args.lent.now (omega arith)
 
-pub returns-in-default : goal.returns-in-default
-returns-in-default c =
-    ended_cut c.args.lent.now c.loop.counter c.loop.at c.loop.invariant c.loop-test.true c.in-default.ensures
+pub returns-in_default : goal.returns-in_default
+returns-in_default c =
+    ended_cut c.args.lent.now c.loop.counter c.loop.at c.loop.invariant c.loop-test.true c.in_default.ensures
 
 pub loop-preserved : goal.loop-preserved
 loop-preserved c =

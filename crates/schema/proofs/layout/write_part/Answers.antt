@@ -11,21 +11,21 @@ use Rattle.schema.proofs.layout.write_part.Goals as goal
 few : (rs : List Rule) (s : ColumnSet) → length (own rs s) ≤ length rs
 few rs s = omega (arith, both_sides (λ r. inside r s) rs)
 
-pub overflow-mul-result : goal.overflow-mul-result
-overflow-mul-result c =
-    omega (arith, c.write-own-owned.ensures.0, few c.rules.result.now c.args.set, ap length c.rules.ensures, length-take c.args.rest.now.count c.args.rest.now.rules, c.args.rest.now.few)
+pub overflow_mul-result : goal.overflow_mul-result
+overflow_mul-result c =
+    omega (arith, c.write_own-owned.ensures.0, few c.rules.result.now c.args.set, ap length c.rules.ensures, length-take c.args.rest.now.count c.args.rest.now.rules, c.args.rest.now.few)
 
-pub overflow-add-result : goal.overflow-add-result
-overflow-add-result c =
-    omega (arith, c.write-own-owned.ensures.0, few c.rules.result.now c.args.set, ap length c.rules.ensures, length-take c.args.rest.now.count c.args.rest.now.rules, c.args.rest.now.few)
+pub overflow_add-result : goal.overflow_add-result
+overflow_add-result c =
+    omega (arith, c.write_own-owned.ensures.0, few c.rules.result.now c.args.set, ap length c.rules.ensures, length-take c.args.rest.now.count c.args.rest.now.rules, c.args.rest.now.few)
 
 pub returns : goal.returns
 returns c =
     let s : ColumnSet = c.args.set in
     let row : List ℕ = c.args.row.now in
     let two : 2 ≤ length row = omega arith in
-    part_put s (left_in c.args.rest.now) row c.write-own-owned.result _ _ c.bits.result
-    (c.write-own-owned.ensures.0 ∙ ap (λ (v : List Rule). length (own v s)) c.rules.ensures)
-    (put_mid_lem row 2 (flat (own c.rules.result.now s)) c.write-own-owned.new.row two c.write-own-owned.ensures.1
+    part_put s (left_in c.args.rest.now) row c.write_own-owned.result _ _ c.bits.result
+    (c.write_own-owned.ensures.0 ∙ ap (λ (v : List Rule). length (own v s)) c.rules.ensures)
+    (put_mid_lem row 2 (flat (own c.rules.result.now s)) c.write_own-owned.new.row two c.write_own-owned.ensures.1
     ∙ ap (λ (v : List Rule). put_list row 2 (flat (own v s))) c.rules.ensures)
-    c.take-out.ensures c.bits.ensures.1
+    c.take_out.ensures c.bits.ensures.1

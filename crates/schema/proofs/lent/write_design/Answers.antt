@@ -21,10 +21,10 @@ returns c rules read =
     let out : List ℕ = c.args.out.now in
     let fits : 1 + length (encoded rs ss) ≤ length out
     = omega (arith, encoded_short rs ss, length-take p.sets.count p.sets.sets, length-take p.cover.count p.cover.rules, p.sets.few, p.cover.few, c.requires) in
-    let put : c.write-parts.new.out ≡ put_list out 0 (length ss ∷ encoded rs ss)
-    = c.write-parts.ensures
+    let put : c.write_parts.new.out ≡ put_list out 0 (length ss ∷ encoded rs ss)
+    = c.write_parts.ensures
     ∙ ap (λ (v : List Rule). put_list out 0 (length c.sets-sets.result.now ∷ encoded v c.sets-sets.result.now)) (c.all.ensures ∙ c.rules.ensures)
     ∙ ap (λ (v : List ColumnSet). put_list out 0 (length v ∷ encoded rs v)) c.sets-sets.ensures in
-    subst (λ (v : List ColumnSet). Designed rules out (length v) c.write-parts.new.out) (sym c.sets-sets.ensures)
-    (told_done t.width.columns t.count (deps (rules_of t)) rs ss out c.write-parts.new.out t.width.narrow plan.design plan.few plan.small_rules plan.small_sets
+    subst (λ (v : List ColumnSet). Designed rules out (length v) c.write_parts.new.out) (sym c.sets-sets.ensures)
+    (told_done t.width.columns t.count (deps (rules_of t)) rs ss out c.write_parts.new.out t.width.narrow plan.design plan.few plan.small_rules plan.small_sets
     fits put rules read.1 read.2 read.3)

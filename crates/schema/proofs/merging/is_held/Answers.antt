@@ -13,12 +13,12 @@ use Rattle.schema.proofs.merging.is_held.Goals as goal
 abbrev holds : ColumnSet → ColumnSet → Bool
 holds x s = all_in (cols x) (cols s)
 
-pub returns-then-is-subset : goal.returns-then-is-subset
-returns-then-is-subset c =
+pub returns-then-is_subset : goal.returns-then-is_subset
+returns-then-is_subset c =
     let xs = c.args.others.now in
     let i = c.loop-other.other-index in
     let x : ColumnSet = c.other-item.result in
-    sym (any_from xs (holds c.args.set) x (subst (λ (v : ColumnSet). In v xs) (sym c.other-item.is) (in_at xs i x c.loop-other-test.true)) (sym c.if-is-subset.ensures))
+    sym (any_from xs (holds c.args.set) x (subst (λ (v : ColumnSet). In v xs) (sym c.other-item.is) (in_at xs i x c.loop-other-test.true)) (sym c.if-is_subset.ensures))
 
 pub loop-other-preserved : goal.loop-other-preserved
 loop-other-preserved c =
@@ -28,7 +28,7 @@ loop-other-preserved c =
     ap (λ (v : List ColumnSet). is_set_held v c.args.set) (take_more xs i x c.loop-other-test.true ∙ ap (λ (y : ColumnSet). take i xs ++ y ∷ []) (sym c.other-item.is))
     ∙ any_push (holds c.args.set) (take i xs) x
     ∙ ap (λ (b : Bool). b || holds c.args.set x) c.loop-other.invariant
-    ∙ sym c.if-is-subset.ensures
+    ∙ sym c.if-is_subset.ensures
 
 pub returns : goal.returns
 returns c =

@@ -1,5 +1,5 @@
-use Rattle.std.proofs.Common.{◌≡◌, ℕ, suc, false, sym, refl, ap, ◌∙◌}
-use Rattle.std.proofs.lemmas.Bool.{both_ways}
+use Rattle.std.proofs.Common.{◌≡◌, ℕ, suc, eqb, sym, refl, ap, ◌∙◌}
+use Rattle.std.proofs.lemmas.Bool.{both_ways, eqb-true, eq-eqb}
 use Rattle.columns.specs.Cols.{Same, Cols, has}
 use Rattle.columns.specs.Sets.{cols}
 use Rattle.columns.proofs.SetNumbers.{same_cols}
@@ -24,7 +24,7 @@ returns-then-eq c =
     let first = cols c.args.start in
     let reached : Cols = rounds k ds first in
     let there : Same (cols all) reached = c.loop-next.invariant.1 in
-    let still : Same (round ds (cols all)) (cols all) = λ d. sym (c.design-round-next.ensures d) ∙ same_cols next all (c.if-eq.ensures.0 refl) d in
+    let still : Same (round ds (cols all)) (cols all) = λ d. sym (c.design-round-next.ensures d) ∙ same_cols next all (eqb-true next.bits all.bits (sym c.if-eq.ensures)) d in
     let rests : Same (round ds reached) reached = λ d. sym (round_same ds (cols all) reached there d) ∙ still d ∙ there d in
     closes ds first (cols all) (same_trans (cols all) reached (closure ds first) there (rest_is_closure k ds first rests))
 
@@ -33,7 +33,7 @@ loop-next-smaller c =
     let all = c.loop-next.all in
     let next = c.design-round-next.result in
     grows all next (λ d h. c.design-round-next.ensures d ∙ round_grows (all_rules (given_parts c.args.design)) (cols all) d h)
-    (λ e. both_ways false refl (c.if-eq.ensures.1 e))
+    (λ e. both_ways (eqb next.bits all.bits) (sym c.if-eq.ensures) (eq-eqb next.bits all.bits e))
 
 pub loop-next-preserved : goal.loop-next-preserved
 loop-next-preserved c =

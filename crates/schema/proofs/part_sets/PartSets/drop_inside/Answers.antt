@@ -12,11 +12,11 @@ inside x s = all_in (cols s) (cols x)
 pub loop-i-init : goal.loop-i-init
 loop-i-init c = (sifted_start (inside c.args.set) c.args.self.now.sets, refl)
 
-pub loop-i-preserved-then-is-subset : goal.loop-i-preserved-then-is-subset
-loop-i-preserved-then-is-subset c =
+pub loop-i-preserved-then-is_subset : goal.loop-i-preserved-then-is_subset
+loop-i-preserved-then-is_subset c =
     let h : c.loop-i.i < length c.loop-i.self.sets = omega (arith, c.loop-i.invariant.1) in (
       sifted_leave (inside c.args.set) c.args.self.now.sets c.loop-i.i c.loop-i.len c.loop-i.self.sets c.loop-i.invariant.0 c.index-self-i.result h
-          (sym c.if-is-subset.ensures),
+          (sym c.if-is_subset.ensures),
       c.loop-i.invariant.1,
     )
 
@@ -24,7 +24,7 @@ pub loop-i-preserved : goal.loop-i-preserved
 loop-i-preserved c =
     let h : c.loop-i.i < length c.loop-i.self.sets = omega (arith, c.loop-i.invariant.1) in (
       sifted_keep (inside c.args.set) c.args.self.now.sets c.loop-i.i c.loop-i.len c.loop-i.self.sets c.loop-i.invariant.0 c.index-self-i.result h
-          (sym c.if-is-subset.ensures),
+          (sym c.if-is_subset.ensures),
       c.loop-i.invariant.1,
     )
 

@@ -12,7 +12,7 @@ use Rattle.schema.specs.Shown.{lead_text}
 use Rattle.schema.specs.Writing.{inside, own}
 use Rattle.schema.proofs.PartText.{own_from, own_next, own_skip}
 use Rattle.schema.proofs.part_text.PartLineDisplay.fmt.Goals as goal
-use Rattle.schema.proofs.part_text.PartLineDisplay.fmt.Goals.{then-lies+in-ok-write-2, else-lies}
+use Rattle.schema.proofs.part_text.PartLineDisplay.fmt.Goals.{then-lies+in_ok-write-2, else-lies}
 
 pub loop-i-init : goal.loop-i-init
 loop-i-init g c = none_led g.W.Write.write_str_gives rule_text (codes " ") _ (codes " by ") _ _ refl
@@ -32,14 +32,14 @@ loop-i-preserved g c =
     let all : List Dep = deps (own rs s) in
     let lead : List ℕ = lead_text c.loop-i.lead in
     elim c.if-lies.branch [
-      | then-lies+in-ok-write-2 w ↦
+      | then-lies+in_ok-write-2 w ↦
           subst (λ v. LedBut took rule_text (codes " ") f0 v (lead_text c.if-lies.lead) left (codes " by ") all) (sym w.f-is)
           (subst (λ v. LedBut took rule_text (codes " ") f0 w.write-then-lies.new.self (lead_text v) left (codes " by ") all) (sym w.lead-is)
           (one_led took rule_text (codes " ") f0 c.loop-i.f w.write-then-lies.new.self lead (dep r) left before (codes " by ") all
           (own_next rs s i r c.loop-i-test.true e (sym in· ∙ w.if-lies.true)) c.loop-i.invariant
           (λ plain.
           has_written_of_eq took c.loop-i.f _ _ w.write-then-lies.new.self (ap (λ x. lead ++ rule_text (dep x)) (sym e))
-          (w.in-ok-write-2.ensures.writes plain refl))))
+          (w.in_ok-write-2.ensures.writes plain refl))))
       | else-lies w ↦
           subst (λ v. LedBut took rule_text (codes " ") f0 v (lead_text c.if-lies.lead) left (codes " by ") all) (sym w.f-is)
           (subst (λ v. LedBut took rule_text (codes " ") f0 c.loop-i.f (lead_text v) left (codes " by ") all) (sym w.lead-is)
@@ -54,4 +54,4 @@ returns-clause-writes g c plain e =
     let s = c.args.self.now.set in
     all_led g.W.Write.write_str_gives rule_text (codes " ") _ _ _ (listed (cols s)) (lead_text c.loop-i.lead) (deps (own_from rs s c.loop-i.i)) (codes " by ") (deps (own rs s))
     (ap (λ v. deps (own v s)) (drop_all c.loop-i.i rs c.loop-i-test.false))
-    (λ p. c.in-ok-write.ensures.writes p refl) c.loop-i.invariant plain
+    (λ p. c.in_ok-write.ensures.writes p refl) c.loop-i.invariant plain

@@ -37,13 +37,13 @@ loop-i-preserved g c =
     = drop-cons xs i s c.loop-i-test.true ∙ ap (λ (k : ℕ). get_or xs i s ∷ drop k xs) (sym (add-one i)) ∙ ap (λ (x : ColumnSet). x ∷ drop (i + 1) xs) (sym is) in
     let first : drop i (plan_sets p) ≡ s ∷ drop (i + 1) (plan_sets p)
     = ap (drop i) (sym c.sets-sets.ensures) ∙ here ∙ ap (λ (v : List ColumnSet). s ∷ drop (i + 1) v) c.sets-sets.ensures in
-    one_lined took c.args.f.now c.loop-i.f c.writeln.new.self rest (left_in c.take-out.new.self) s
+    one_lined took c.args.f.now c.loop-i.f c.writeln.new.self rest (left_in c.take_out.new.self) s
     (drop i (plan_sets p)) (drop (i + 1) (plan_sets p)) (plan_parts p) first
-    c.take-out.ensures c.loop-i.invariant
+    c.take_out.ensures c.loop-i.invariant
     (λ plain.
     has_written_of_eq took c.loop-i.f _ _ c.writeln.new.self
     (ap (λ (v : List Rule). text_of_part (part_of v s) ++ 10 ∷ []) c.rules-in-loop-i.ensures)
-    (c.in-ok-writeln.ensures.writes plain refl))
+    (c.in_ok-writeln.ensures.writes plain refl))
 
 pub returns-clause-writes : goal.returns-clause-writes
 returns-clause-writes g c plain e =
