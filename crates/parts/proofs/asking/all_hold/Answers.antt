@@ -9,26 +9,26 @@ loop-p-init c = (
   hold_start c.args.parts.width.columns c.room-room.result c.args.parts.numbers.now c.args.cells.now c.first-rest.result.now c.args.parts.sound c.room-room.ensures c.first-rest.ensures c.args.row.now,
 )
 
-pub slice-bounds-rows-end : goal.slice-bounds-rows-end
-slice-bounds-rows-end c =
+pub slice_bounds-rows-end : goal.slice_bounds-rows-end
+slice_bounds-rows-end c =
     let s = (size_is c.size-size.result c.room-room.result _ (c.args.parts.width.columns + 1) c.size-size.ensures.is c.room-room.ensures) in
     omega (arith, part_long c.args.parts.width.columns c.room-room.result (get_or c.args.parts.numbers.now 0 0) c.loop-p.p c.size-size.result c.loop-p.rest.now c.loop-p.left.now c.loop-p.rest.now c.loop-p.left.now (omega arith) c.loop-p.invariant.0 s)
 
-pub invariant-of-part : goal.invariant-of-part
-invariant-of-part c = (part_sound c.args.parts.width.columns c.room-room.result (get_or c.args.parts.numbers.now 0 0) c.loop-p.p c.size-size.result c.loop-p.rest.now c.loop-p.left.now c.loop-p.rest.now c.loop-p.left.now (omega arith) c.loop-p.invariant.0 (size_is c.size-size.result c.room-room.result _ (c.args.parts.width.columns + 1) c.size-size.ensures.is c.room-room.ensures), tt)
+pub invariant_of-part : goal.invariant_of-part
+invariant_of-part c = record { sound = part_sound c.args.parts.width.columns c.room-room.result (get_or c.args.parts.numbers.now 0 0) c.loop-p.p c.size-size.result c.loop-p.rest.now c.loop-p.left.now c.loop-p.rest.now c.loop-p.left.now (omega arith) c.loop-p.invariant.0 (size_is c.size-size.result c.room-room.result _ (c.args.parts.width.columns + 1) c.size-size.ensures.is c.room-room.ensures) }
 
-pub invariant-of-rows : goal.invariant-of-rows
-invariant-of-rows c = (rows_long c.args.parts.width.columns c.room-room.result (get_or c.args.parts.numbers.now 0 0) c.loop-p.p c.size-size.result c.loop-p.rest.now c.loop-p.left.now c.loop-p.rest.now c.loop-p.left.now (omega arith) c.loop-p.invariant.0 (size_is c.size-size.result c.room-room.result _ (c.args.parts.width.columns + 1) c.size-size.ensures.is c.room-room.ensures), tt)
+pub invariant_of-rows : goal.invariant_of-rows
+invariant_of-rows c = record { whole = rows_long c.args.parts.width.columns c.room-room.result (get_or c.args.parts.numbers.now 0 0) c.loop-p.p c.size-size.result c.loop-p.rest.now c.loop-p.left.now c.loop-p.rest.now c.loop-p.left.now (omega arith) c.loop-p.invariant.0 (size_is c.size-size.result c.room-room.result _ (c.args.parts.width.columns + 1) c.size-size.ensures.is c.room-room.ensures) }
 
 pub returns-then-not-holds : goal.returns-then-not-holds
 returns-then-not-holds c =
     hold_stop c.args.parts.width.columns c.room-room.result (get_or c.args.parts.numbers.now 0 0) c.loop-p.p c.size-size.result c.loop-p.rest.now c.loop-p.left.now (omega arith) c.loop-p.invariant.0 (size_is c.size-size.result c.room-room.result _ (c.args.parts.width.columns + 1) c.size-size.ensures.is c.room-room.ensures) c.args.row.now (cols c.set.result) c.set.ensures _ c.loop-p.invariant.1 (sym c.holds.ensures ∙ c.if-not-holds.true)
 
-pub slice-bounds-left-count : goal.slice-bounds-left-count
-slice-bounds-left-count c = omega (arith, part_long c.args.parts.width.columns c.room-room.result (get_or c.args.parts.numbers.now 0 0) c.loop-p.p c.size-size.result c.loop-p.rest.now c.loop-p.left.now c.loop-p.rest.now c.loop-p.left.now (omega arith) c.loop-p.invariant.0 (size_is c.size-size.result c.room-room.result _ (c.args.parts.width.columns + 1) c.size-size.ensures.is c.room-room.ensures))
+pub slice_bounds-left-count : goal.slice_bounds-left-count
+slice_bounds-left-count c = omega (arith, part_long c.args.parts.width.columns c.room-room.result (get_or c.args.parts.numbers.now 0 0) c.loop-p.p c.size-size.result c.loop-p.rest.now c.loop-p.left.now c.loop-p.rest.now c.loop-p.left.now (omega arith) c.loop-p.invariant.0 (size_is c.size-size.result c.room-room.result _ (c.args.parts.width.columns + 1) c.size-size.ensures.is c.room-room.ensures))
 
-pub slice-bounds-left-start : goal.slice-bounds-left-start
-slice-bounds-left-start c = omega (arith, part_long c.args.parts.width.columns c.room-room.result (get_or c.args.parts.numbers.now 0 0) c.loop-p.p c.size-size.result c.loop-p.rest.now c.loop-p.left.now c.loop-p.rest.now c.loop-p.left.now (omega arith) c.loop-p.invariant.0 (size_is c.size-size.result c.room-room.result _ (c.args.parts.width.columns + 1) c.size-size.ensures.is c.room-room.ensures))
+pub slice_bounds-left-start : goal.slice_bounds-left-start
+slice_bounds-left-start c = omega (arith, part_long c.args.parts.width.columns c.room-room.result (get_or c.args.parts.numbers.now 0 0) c.loop-p.p c.size-size.result c.loop-p.rest.now c.loop-p.left.now c.loop-p.rest.now c.loop-p.left.now (omega arith) c.loop-p.invariant.0 (size_is c.size-size.result c.room-room.result _ (c.args.parts.width.columns + 1) c.size-size.ensures.is c.room-room.ensures))
 
 pub loop-p-preserved : goal.loop-p-preserved
 loop-p-preserved c = (

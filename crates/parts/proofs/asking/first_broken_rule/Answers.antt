@@ -16,16 +16,16 @@ parts-init c = (
   broken_start c.args.parts.width.columns c.room-room.result c.args.parts.numbers.now c.args.cells.now c.first-rest.result.now c.args.parts.sound c.room-room.ensures c.first-rest.ensures c.args.row.now,
 )
 
-pub slice-bounds-rows-end : goal.slice-bounds-rows-end
-slice-bounds-rows-end c =
+pub slice_bounds-rows-end : goal.slice_bounds-rows-end
+slice_bounds-rows-end c =
     let s = (size_is c.size-size.result c.room-room.result _ (c.args.parts.width.columns + 1) c.size-size.ensures.is c.room-room.ensures) in
     omega (arith, part_long c.args.parts.width.columns c.room-room.result (get_or c.args.parts.numbers.now 0 0) c.parts.p c.size-size.result c.parts.rest.now c.parts.left.now c.parts.rest.now c.parts.left.now (omega arith) c.parts.invariant.1 s)
 
-pub invariant-of-rows : goal.invariant-of-rows
-invariant-of-rows c = (rows_long c.args.parts.width.columns c.room-room.result (get_or c.args.parts.numbers.now 0 0) c.parts.p c.size-size.result c.parts.rest.now c.parts.left.now c.parts.rest.now c.parts.left.now (omega arith) c.parts.invariant.1 (size_is c.size-size.result c.room-room.result _ (c.args.parts.width.columns + 1) c.size-size.ensures.is c.room-room.ensures), tt)
+pub invariant_of-rows : goal.invariant_of-rows
+invariant_of-rows c = record { whole = rows_long c.args.parts.width.columns c.room-room.result (get_or c.args.parts.numbers.now 0 0) c.parts.p c.size-size.result c.parts.rest.now c.parts.left.now c.parts.rest.now c.parts.left.now (omega arith) c.parts.invariant.1 (size_is c.size-size.result c.room-room.result _ (c.args.parts.width.columns + 1) c.size-size.ensures.is c.room-room.ensures) }
 
-pub invariant-of-part : goal.invariant-of-part
-invariant-of-part c = (part_sound c.args.parts.width.columns c.room-room.result (get_or c.args.parts.numbers.now 0 0) c.parts.p c.size-size.result c.parts.rest.now c.parts.left.now c.parts.rest.now c.parts.left.now (omega arith) c.parts.invariant.1 (size_is c.size-size.result c.room-room.result _ (c.args.parts.width.columns + 1) c.size-size.ensures.is c.room-room.ensures), tt)
+pub invariant_of-part : goal.invariant_of-part
+invariant_of-part c = record { sound = part_sound c.args.parts.width.columns c.room-room.result (get_or c.args.parts.numbers.now 0 0) c.parts.p c.size-size.result c.parts.rest.now c.parts.left.now c.parts.rest.now c.parts.left.now (omega arith) c.parts.invariant.1 (size_is c.size-size.result c.room-room.result _ (c.args.parts.width.columns + 1) c.size-size.ensures.is c.room-room.ensures) }
 
 pub look-requires : goal.look-requires
 look-requires c = omega (arith, c.held-held.ensures, held_length c.args.parts.width.columns c.room-room.result (take (c.size-size.result - 0) c.parts.left.now))
@@ -46,11 +46,11 @@ loop-q-preserved c = (
       (row_end (dep c.rule-rule.result) c.args.row.now (held_in c.args.parts.width.columns c.room-room.result (take (c.size-size.result - 0) c.parts.left.now)) c.loop-i.i _ (omega (arith, c.held-held.ensures)) c.loop-i.invariant.1),
 )
 
-pub slice-bounds-left-count : goal.slice-bounds-left-count
-slice-bounds-left-count c = omega (arith, part_long c.args.parts.width.columns c.room-room.result (get_or c.args.parts.numbers.now 0 0) c.parts.p c.size-size.result c.parts.rest.now c.parts.left.now c.parts.rest.now c.parts.left.now (omega arith) c.parts.invariant.1 (size_is c.size-size.result c.room-room.result _ (c.args.parts.width.columns + 1) c.size-size.ensures.is c.room-room.ensures))
+pub slice_bounds-left-count : goal.slice_bounds-left-count
+slice_bounds-left-count c = omega (arith, part_long c.args.parts.width.columns c.room-room.result (get_or c.args.parts.numbers.now 0 0) c.parts.p c.size-size.result c.parts.rest.now c.parts.left.now c.parts.rest.now c.parts.left.now (omega arith) c.parts.invariant.1 (size_is c.size-size.result c.room-room.result _ (c.args.parts.width.columns + 1) c.size-size.ensures.is c.room-room.ensures))
 
-pub slice-bounds-left-start : goal.slice-bounds-left-start
-slice-bounds-left-start c = omega (arith, part_long c.args.parts.width.columns c.room-room.result (get_or c.args.parts.numbers.now 0 0) c.parts.p c.size-size.result c.parts.rest.now c.parts.left.now c.parts.rest.now c.parts.left.now (omega arith) c.parts.invariant.1 (size_is c.size-size.result c.room-room.result _ (c.args.parts.width.columns + 1) c.size-size.ensures.is c.room-room.ensures))
+pub slice_bounds-left-start : goal.slice_bounds-left-start
+slice_bounds-left-start c = omega (arith, part_long c.args.parts.width.columns c.room-room.result (get_or c.args.parts.numbers.now 0 0) c.parts.p c.size-size.result c.parts.rest.now c.parts.left.now c.parts.rest.now c.parts.left.now (omega arith) c.parts.invariant.1 (size_is c.size-size.result c.room-room.result _ (c.args.parts.width.columns + 1) c.size-size.ensures.is c.room-room.ensures))
 
 pub parts-preserved : goal.parts-preserved
 parts-preserved c = (

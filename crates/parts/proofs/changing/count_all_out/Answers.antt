@@ -8,38 +8,38 @@ use Rattle.parts.proofs.changing.count_all_out.Goals as goal
 pub loop-p-init : goal.loop-p-init
 loop-p-init c = so_far_start one_less c.args.parts.width.columns c.room-room.result c.args.parts.numbers.now c.args.cells.now c.args.row.now c.args.parts.sound c.room-room.ensures c.first-rest.result.now c.first-rest.ensures
 
-pub overflow-mul-at : goal.overflow-mul-at
-overflow-mul-at c =
+pub overflow_mul-at : goal.overflow_mul-at
+overflow_mul-at c =
     let s = (size_is c.size-size.result c.room-room.result _ (c.args.parts.width.columns + 1) c.size-size.ensures.is c.room-room.ensures) in
     let z : c.loop-p.p * c.size-size.result ≡ c.loop-p.p * (c.room-room.result * (c.args.parts.width.columns + 1)) = ap (λ (k : ℕ). c.loop-p.p * k) s in
     let h : c.loop-p.p * c.size-size.result + c.size-size.result ≤ length c.loop-p.cells = omega (arith, share_fits one_less c.args.parts.width.columns c.room-room.result c.args.parts.numbers.now c.args.cells.now c.args.row.now c.args.parts.sound c.room-room.ensures c.loop-p.p c.loop-p.rest.now c.loop-p.cells (omega arith) c.loop-p.invariant c.loop-p.auto.cells) in
     search rules
 
-pub overflow-add-at : goal.overflow-add-at
-overflow-add-at c =
+pub overflow_add-at : goal.overflow_add-at
+overflow_add-at c =
     let s = (size_is c.size-size.result c.room-room.result _ (c.args.parts.width.columns + 1) c.size-size.ensures.is c.room-room.ensures) in
     let z : c.loop-p.p * c.size-size.result ≡ c.loop-p.p * (c.room-room.result * (c.args.parts.width.columns + 1)) = ap (λ (k : ℕ). c.loop-p.p * k) s in
     let h : c.loop-p.p * c.size-size.result + c.size-size.result ≤ length c.loop-p.cells = omega (arith, share_fits one_less c.args.parts.width.columns c.room-room.result c.args.parts.numbers.now c.args.cells.now c.args.row.now c.args.parts.sound c.room-room.ensures c.loop-p.p c.loop-p.rest.now c.loop-p.cells (omega arith) c.loop-p.invariant c.loop-p.auto.cells) in
     search rules
 
-pub invariant-of-part : goal.invariant-of-part
-invariant-of-part c = (part_stands_here one_less c.args.parts.width.columns c.room-room.result c.args.parts.numbers.now c.args.cells.now c.args.row.now c.args.parts.sound c.room-room.ensures c.loop-p.p c.loop-p.rest.now c.loop-p.cells (omega arith) c.loop-p.invariant c.loop-p.auto.cells, tt)
+pub invariant_of-part : goal.invariant_of-part
+invariant_of-part c = record { sound = part_stands_here one_less c.args.parts.width.columns c.room-room.result c.args.parts.numbers.now c.args.cells.now c.args.row.now c.args.parts.sound c.room-room.ensures c.loop-p.p c.loop-p.rest.now c.loop-p.cells (omega arith) c.loop-p.invariant c.loop-p.auto.cells }
 
-pub offset-bounds-cells-at : goal.offset-bounds-cells-at
-offset-bounds-cells-at c =
+pub offset_bounds-cells-at : goal.offset_bounds-cells-at
+offset_bounds-cells-at c =
     let s = (size_is c.size-size.result c.room-room.result _ (c.args.parts.width.columns + 1) c.size-size.ensures.is c.room-room.ensures) in
     let z : c.loop-p.p * c.size-size.result ≡ c.loop-p.p * (c.room-room.result * (c.args.parts.width.columns + 1)) = ap (λ (k : ℕ). c.loop-p.p * k) s in
     let h : c.loop-p.p * c.size-size.result + c.size-size.result ≤ length c.loop-p.cells = omega (arith, share_fits one_less c.args.parts.width.columns c.room-room.result c.args.parts.numbers.now c.args.cells.now c.args.row.now c.args.parts.sound c.room-room.ensures c.loop-p.p c.loop-p.rest.now c.loop-p.cells (omega arith) c.loop-p.invariant c.loop-p.auto.cells) in
     search rules
 
-pub slice-bounds-count-out-end : goal.slice-bounds-count-out-end
-slice-bounds-count-out-end c =
+pub slice_bounds-count_out-end : goal.slice_bounds-count_out-end
+slice_bounds-count_out-end c =
     let s = (size_is c.size-size.result c.room-room.result _ (c.args.parts.width.columns + 1) c.size-size.ensures.is c.room-room.ensures) in
     let z : c.loop-p.p * c.size-size.result ≡ c.loop-p.p * (c.room-room.result * (c.args.parts.width.columns + 1)) = ap (λ (k : ℕ). c.loop-p.p * k) s in
     omega (arith, share_fits one_less c.args.parts.width.columns c.room-room.result c.args.parts.numbers.now c.args.cells.now c.args.row.now c.args.parts.sound c.room-room.ensures c.loop-p.p c.loop-p.rest.now c.loop-p.cells (omega arith) c.loop-p.invariant c.loop-p.auto.cells)
 
-pub count-out-requires : goal.count-out-requires
-count-out-requires c =
+pub count_out-requires : goal.count_out-requires
+count_out-requires c =
     record {
       whole = lent_long one_less c.args.parts.width.columns c.room-room.result c.args.parts.numbers.now c.args.cells.now c.args.row.now c.args.parts.sound c.room-room.ensures c.loop-p.p c.loop-p.rest.now c.loop-p.cells (omega arith) c.loop-p.invariant c.loop-p.auto.cells c.size-size.result (c.loop-p.p * c.size-size.result) (size_is c.size-size.result c.room-room.result _ (c.args.parts.width.columns + 1) c.size-size.ensures.is c.room-room.ensures) refl;
       there = held_lent one_less c.args.parts.width.columns c.room-room.result c.args.parts.numbers.now c.args.cells.now c.args.row.now c.args.parts.sound c.room-room.ensures c.loop-p.p c.loop-p.rest.now c.loop-p.cells (omega arith) c.loop-p.invariant c.loop-p.auto.cells c.size-size.result (c.loop-p.p * c.size-size.result) (size_is c.size-size.result c.room-room.result _ (c.args.parts.width.columns + 1) c.size-size.ensures.is c.room-room.ensures) refl (cols c.set.result) c.set.ensures c.requires.there;
@@ -47,8 +47,8 @@ count-out-requires c =
 
 pub loop-p-preserved : goal.loop-p-preserved
 loop-p-preserved c =
-    so_far_next one_less c.args.parts.width.columns c.room-room.result c.args.parts.numbers.now c.args.cells.now c.args.row.now c.args.parts.sound c.room-room.ensures c.loop-p.p c.loop-p.rest.now c.loop-p.cells (omega arith) c.loop-p.invariant c.loop-p.auto.cells c.size-size.result (c.loop-p.p * c.size-size.result) (size_is c.size-size.result c.room-room.result _ (c.args.parts.width.columns + 1) c.size-size.ensures.is c.room-room.ensures) refl (cols c.set.result) c.count-out.new.rows c.rest-rest.result.now c.set.ensures c.rest-rest.ensures c.count-out.auto.rows
-    c.count-out.ensures.holds c.count-out.ensures.clean
+    so_far_next one_less c.args.parts.width.columns c.room-room.result c.args.parts.numbers.now c.args.cells.now c.args.row.now c.args.parts.sound c.room-room.ensures c.loop-p.p c.loop-p.rest.now c.loop-p.cells (omega arith) c.loop-p.invariant c.loop-p.auto.cells c.size-size.result (c.loop-p.p * c.size-size.result) (size_is c.size-size.result c.room-room.result _ (c.args.parts.width.columns + 1) c.size-size.ensures.is c.room-room.ensures) refl (cols c.set.result) c.count_out.new.rows c.rest-rest.result.now c.set.ensures c.rest-rest.ensures c.count_out.auto.rows
+    c.count_out.ensures.holds c.count_out.ensures.clean
 
 pub returns : goal.returns
 returns c = so_far_end one_less c.args.parts.width.columns c.room-room.result c.args.parts.numbers.now c.args.cells.now c.args.row.now c.args.parts.sound c.room-room.ensures all_less less_apart c.loop-p.p c.loop-p.rest.now c.loop-p.cells (omega arith) (omega arith) c.loop-p.auto.cells c.loop-p.invariant

@@ -10,8 +10,8 @@ use Rattle.parts.proofs.counting.count_in.Goals as goal
 pub start-at-requires : goal.start-at-requires
 start-at-requires c = omega (arith, held_length c.args.row.width.columns c.args.room c.args.rows.now, c.in-Held.ensures.1)
 
-pub overflow-add-rows-in-Held : goal.overflow-add-rows-in-Held
-overflow-add-rows-in-Held c =
+pub overflow_add-rows-in-Held : goal.overflow_add-rows-in-Held
+overflow_add-rows-in-Held c =
     let x : c.start-at.result + c.columns-n.result ≡ c.in-Held.i * (c.args.row.width.columns + 1) + c.args.row.width.columns = ap₂ (λ (a b : ℕ). a + b) c.start-at.ensures.is c.columns-n.ensures in
     let t : get_or c.args.rows.now (c.start-at.result + c.columns-n.result) 0 < 4294967295
     = times_small c.args.row.width.columns c.args.room (cols c.args.set) c.args.row.cells.now c.args.rows.now c.in-Held.i c.in-Held.ensures.0
@@ -44,6 +44,6 @@ returns-in-New c =
     let row = c.args.row.cells.now in
     let q = c.in-New.ensures.1 in
     let f = room_left n c.args.room p row xs c.in-New.i c.in-New.ensures.0 (omega arith) c.requires.free in
-    let r = in_new_at n c.args.room p row xs c.requires.whole c.in-New.i c.in-New.ensures.0 c.start-at-in-New.result c.write-row.new.rest c.start-at-in-New.ensures.is c.args.row.whole (omega arith)
-    (omega arith) c.write-row.ensures in
+    let r = in_new_at n c.args.room p row xs c.requires.whole c.in-New.i c.in-New.ensures.0 c.start-at-in-New.result c.write_row.new.rest c.start-at-in-New.ensures.is c.args.row.whole (omega arith)
+    (omega arith) c.write_row.ensures in
     record { holds = r.0; clean = r.1 }

@@ -10,8 +10,8 @@ pub loop-c-preserved : goal.loop-c-preserved
 loop-c-preserved c =
     let M : List ℕ = masked (cols c.args.set) 0 c.args.row.cells.now in
     let m = masked_length (cols c.args.set) 0 c.args.row.cells.now in
-    cell_written c.args.rest.now c.loop-c.rest M c.loop-c.c c.look-cell.result (omega (arith, c.columns-n.ensures)) (omega (arith, c.columns-n.ensures, c.args.row.whole))
-    (c.look-cell.ensures ∙ sym (masked_cell (cols c.args.set) c.args.row.cells.now c.loop-c.c (omega (arith, c.columns-n.ensures, c.args.row.whole))))
+    cell_written c.args.rest.now c.loop-c.rest M c.loop-c.c c.look_cell.result (omega (arith, c.columns-n.ensures)) (omega (arith, c.columns-n.ensures, c.args.row.whole))
+    (c.look_cell.ensures ∙ sym (masked_cell (cols c.args.set) c.args.row.cells.now c.loop-c.c (omega (arith, c.columns-n.ensures, c.args.row.whole))))
     c.loop-c.invariant.0 c.loop-c.invariant.1
 
 pub returns-then-next-rest : goal.returns-then-next-rest

@@ -24,8 +24,8 @@ loop-c-preserved c =
     let b : Row = c.args.b.now in
     let i : ℕ = c.in-Some.c.index in
     let eq : eqb (get_or a i 0) (get_or b i 0) ≡ true = eq-eqb (get_or a i 0) (get_or b i 0) (sym c.cell.ensures ∙ c.if-cell.false ∙ c.cell-in-Some.ensures) in
-    sym (one_column (cols c.loop-c.rest) i _ a b c.in-Some.ensures ∙ ap (λ (t : Bool). t && agree (cols c.take-first.new.self) a b) eq) ∙ c.loop-c.invariant
+    sym (one_column (cols c.loop-c.rest) i _ a b c.in-Some.ensures ∙ ap (λ (t : Bool). t && agree (cols c.take_first.new.self) a b) eq) ∙ c.loop-c.invariant
 
 pub returns : goal.returns
 unfolding agree
-returns c = sym (ap (λ (z : Cols). agree z c.args.a.now c.args.b.now) c.in-default.ensures.0) ∙ c.loop-c.invariant
+returns c = sym (ap (λ (z : Cols). agree z c.args.a.now c.args.b.now) c.in_default.ensures.0) ∙ c.loop-c.invariant

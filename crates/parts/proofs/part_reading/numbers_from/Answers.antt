@@ -6,8 +6,8 @@ use Rattle.parts.proofs.part_reading.numbers_from.Goals as goal
 pub loop-q-init : goal.loop-q-init
 loop-q-init c = from_start c.args.parts.width.columns c.args.parts.numbers.now c.first-rest.result.now c.args.parts.sound c.first-rest.ensures
 
-pub invariant-of-part : goal.invariant-of-part
-invariant-of-part c = (from_sound c.args.parts.width.columns c.args.parts.numbers.now c.loop-q.q c.loop-q.rest.now (omega arith) c.loop-q.invariant, tt)
+pub invariant_of-part : goal.invariant_of-part
+invariant_of-part c = record { sound = from_sound c.args.parts.width.columns c.args.parts.numbers.now c.loop-q.q c.loop-q.rest.now (omega arith) c.loop-q.invariant }
 
 pub loop-q-preserved : goal.loop-q-preserved
 loop-q-preserved c =

@@ -9,9 +9,9 @@ loop-i-init c =
     let z : length c.args.sets.now - 0 ≡ length c.args.sets.now = omega arith in
     ap (λ (k : ℕ). all_sets_fit c.args.width.columns k c.args.sets.now) z
 
-pub returns-in-default : goal.returns-in-default
-returns-in-default c =
-    sym (sym c.loop-i.invariant ∙ fit_more c.args.width.columns c.args.sets.now c.loop-i.i (omega arith) ∙ and_left _ _ (le-ltb _ _ c.in-default.ensures))
+pub returns-in_default : goal.returns-in_default
+returns-in_default c =
+    sym (sym c.loop-i.invariant ∙ fit_more c.args.width.columns c.args.sets.now c.loop-i.i (omega arith) ∙ and_left _ _ (le-ltb _ _ c.in_default.ensures))
 
 pub loop-i-preserved : goal.loop-i-preserved
 loop-i-preserved c =

@@ -13,8 +13,8 @@ next n k p len xs ys b l w e q inv =
     ap₂ (λ (a : ℕ) (z : List ℕ). formed n a z) m (q ∙ take_rest xs len ∙ ap (λ (a : ℕ). drop a xs) e)
     ∙ sym (formed_more n (k - p) xs (omega arith) ∙ ap (λ (t : Bool). t && formed n (k - p - 1) (drop (2 + 2 * get_or xs 1 0) xs)) w) ∙ inv
 
-pub returns-in-default : goal.returns-in-default
-returns-in-default c = no_parts c.args.width.columns c.args.design.now (nothing_lent c.args.design.now (omega (arith, tests)))
+pub returns-in_default : goal.returns-in_default
+returns-in_default c = no_parts c.args.width.columns c.args.design.now (nothing_lent c.args.design.now (omega (arith, tests)))
 
 pub returns-then-count-lt1 : goal.returns-then-count-lt1
 returns-then-count-lt1 c = no_parts c.args.width.columns c.args.design.now c.if-count-lt1.true
@@ -27,10 +27,10 @@ loop-p-init c =
     let z : get_or c.args.design.now 0 0 - 0 ≡ get_or c.args.design.now 0 0 = omega arith in
     (simp (length-take, length-drop) (omega arith), ap₂ (λ (k : ℕ) (xs : List ℕ). formed c.args.width.columns k xs) z (take_rest c.args.design.now 1))
 
-pub returns-in-default-part-len : goal.returns-in-default-part-len
-returns-in-default-part-len c =
+pub returns-in_default-part_len : goal.returns-in_default-part_len
+returns-in_default-part_len c =
     sym (read_parts c.args.width.columns c.args.design.now (omega arith) (omega arith) ∙ sym c.loop-p.invariant.1
-    ∙ formed_more c.args.width.columns (get_or c.args.design.now 0 0 - c.loop-p.p) c.loop-p.rest.now (omega arith) ∙ and_left _ _ c.in-default-part-len.ensures)
+    ∙ formed_more c.args.width.columns (get_or c.args.design.now 0 0 - c.loop-p.p) c.loop-p.rest.now (omega arith) ∙ and_left _ _ c.in_default-part_len.ensures)
 
 pub loop-p-preserved : goal.loop-p-preserved
 loop-p-preserved c = (
@@ -43,6 +43,6 @@ returns c =
     sym (read_parts c.args.width.columns c.args.design.now (omega arith) (omega arith) ∙ sym c.loop-p.invariant.1
     ∙ formed_none c.args.width.columns (get_or c.args.design.now 0 0 - c.loop-p.p) c.loop-p.rest.now (omega arith))
 
-pub offset-bounds-rest-len : goal.offset-bounds-rest-len
-offset-bounds-rest-len c = let h : c.in-Some.len ≤ length c.loop-p.rest.now = c.in-Some.ensures.2 in
+pub offset_bounds-rest-len : goal.offset_bounds-rest-len
+offset_bounds-rest-len c = let h : c.in-Some.len ≤ length c.loop-p.rest.now = c.in-Some.ensures.2 in
     let m : c.in-Some.len ≤ length c.args.design.now = omega (arith, c.loop-p.invariant.0) in search rules

@@ -12,8 +12,8 @@ returns-then-count-gt4294967295 c = too_many c.args.width.columns c.args.numbers
 pub returns-then-end-numbers : goal.returns-then-end-numbers
 returns-then-end-numbers c = too_short c.args.width.columns c.args.numbers.now (omega arith)
 
-pub returns-in-default : goal.returns-in-default
-returns-in-default c = set_outside c.args.width.columns c.args.numbers.now (le-ltb _ _ c.in-default.ensures)
+pub returns-in_default : goal.returns-in_default
+returns-in_default c = set_outside c.args.width.columns c.args.numbers.now (le-ltb _ _ c.in_default.ensures)
 
 pub returns-then-not-fit : goal.returns-then-not-fit
 returns-then-not-fit c =

@@ -9,8 +9,8 @@ returns c =
     c.in-Some.ensures.1 ∙ ap (λ (k : ℕ). set_in 0 c.args.width.columns k) e ∙ low_set 0 c.args.width.columns c.args.bits
 
 -- it never comes to this
-pub returns-in-default : goal.returns-in-default
-returns-in-default c =
+pub returns-in_default : goal.returns-in_default
+returns-in_default c =
     let e = low_mask c.args.bits c.columns.result c.args.width.columns c.columns.ensures c.args.width.narrow in
-    let h = c.in-default.ensures in
+    let h = c.in_default.ensures in
     let l = low_below c.args.bits c.args.width.columns in absurd (omega arith)

@@ -22,12 +22,12 @@ returns-then-one-index c =
     let s = c.args.two.now in
     let ne : get_or r i 0 ≡ get_or s i 0 → ⊥
     = λ e. c.if-one-index.true (ap (λ (v : ℕ). get_or r v 0) c.index.ensures ∙ e ∙ ap (λ (v : ℕ). get_or s v 0) (sym c.index-in-Some.ensures)) in
-    sym (c.loop-c.invariant ∙ front i (cols c.take-first.new.self) (cols c.loop-c.todo) r s c.in-Some.ensures
-    ∙ ap (λ (b : Bool). b && agree (cols c.take-first.new.self) r s) (ne_eqb (get_or r i 0) (get_or s i 0) ne))
+    sym (c.loop-c.invariant ∙ front i (cols c.take_first.new.self) (cols c.loop-c.todo) r s c.in-Some.ensures
+    ∙ ap (λ (b : Bool). b && agree (cols c.take_first.new.self) r s) (ne_eqb (get_or r i 0) (get_or s i 0) ne))
 
 pub loop-c-smaller : goal.loop-c-smaller
 loop-c-smaller c =
-    let e : length (cols c.loop-c.todo) ≡ length (c.in-Some.c.index ∷ cols c.take-first.new.self) = ap length c.in-Some.ensures in
+    let e : length (cols c.loop-c.todo) ≡ length (c.in-Some.c.index ∷ cols c.take_first.new.self) = ap length c.in-Some.ensures in
     omega arith
 
 pub loop-c-preserved : goal.loop-c-preserved
@@ -37,9 +37,9 @@ loop-c-preserved c =
     let s = c.args.two.now in
     let e : get_or r i 0 ≡ get_or s i 0
     = ap (λ (v : ℕ). get_or r v 0) (sym c.index.ensures) ∙ c.if-one-index.false ∙ ap (λ (v : ℕ). get_or s v 0) c.index-in-Some.ensures in
-    c.loop-c.invariant ∙ front i (cols c.take-first.new.self) (cols c.loop-c.todo) r s c.in-Some.ensures
-    ∙ ap (λ (b : Bool). b && agree (cols c.take-first.new.self) r s) (eq-eqb (get_or r i 0) (get_or s i 0) e)
+    c.loop-c.invariant ∙ front i (cols c.take_first.new.self) (cols c.loop-c.todo) r s c.in-Some.ensures
+    ∙ ap (λ (b : Bool). b && agree (cols c.take_first.new.self) r s) (eq-eqb (get_or r i 0) (get_or s i 0) e)
 
 pub returns : goal.returns
 returns c =
-    sym (c.loop-c.invariant ∙ nothing (cols c.loop-c.todo) c.args.one.now c.args.two.now c.in-default.ensures.0)
+    sym (c.loop-c.invariant ∙ nothing (cols c.loop-c.todo) c.args.one.now c.args.two.now c.in_default.ensures.0)

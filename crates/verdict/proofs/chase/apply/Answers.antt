@@ -7,28 +7,28 @@ use Rattle.verdict.specs.Sweeps.{PairQuiet}
 use Rattle.verdict.proofs.Sweeping.{sweep_none, equating_start, equating_turn, equating_end}
 use Rattle.verdict.proofs.chase.apply.Goals as goal
 
-pub returns-then-not-agree-on : goal.returns-then-not-agree-on
-returns-then-not-agree-on c =
+pub returns-then-not-agree_on : goal.returns-then-not-agree_on
+returns-then-not-agree_on c =
     let t = c.args.rows.now in
     let d = dep c.args.rule in
-    sweep_none (d ∷ []) (PairQuiet d t c.args.one c.args.two) t (λ e. absurd (both_ways (agree d.left (get_or t c.args.one []) (get_or t c.args.two [])) (sym c.if-not-agree-on.ensures) e))
+    sweep_none (d ∷ []) (PairQuiet d t c.args.one c.args.two) t (λ e. absurd (both_ways (agree d.left (get_or t c.args.one []) (get_or t c.args.two [])) (sym c.if-not-agree_on.ensures) e))
 
 pub loop-c-init : goal.loop-c-init
 loop-c-init c = equating_start c.args.rows.now c.args.one c.args.two (cols c.args.rule.right)
 
 pub loop-c-smaller : goal.loop-c-smaller
 loop-c-smaller c =
-    let e : length (cols c.loop-c.todo) ≡ length (c.in-Some.c.index ∷ cols c.take-first.new.self) = ap length c.in-Some.ensures in
+    let e : length (cols c.loop-c.todo) ≡ length (c.in-Some.c.index ∷ cols c.take_first.new.self) = ap length c.in-Some.ensures in
     omega arith
 
 pub loop-c-preserved : goal.loop-c-preserved
 loop-c-preserved c =
-    equating_turn c.args.rows.now c.loop-c.rows c.merge-at-changed.new.rows c.args.one c.args.two (cols c.args.rule.right)
-    (cols c.loop-c.todo) (cols c.take-first.new.self) c.in-Some.c.index c.loop-c.changed c.merge-at-changed.result
-    c.in-Some.ensures (omega (arith, c.loop-c.auto.rows, c.requires.0)) (omega (arith, c.loop-c.auto.rows, c.requires.1)) c.loop-c.invariant
-    c.merge-at-changed.ensures
+    equating_turn c.args.rows.now c.loop-c.rows c.merge_at-changed.new.rows c.args.one c.args.two (cols c.args.rule.right)
+    (cols c.loop-c.todo) (cols c.take_first.new.self) c.in-Some.c.index c.loop-c.changed c.merge_at-changed.result
+    c.in-Some.ensures (omega (arith, c.loop-c.auto.rows, c.requires.one_in_bounds)) (omega (arith, c.loop-c.auto.rows, c.requires.two_in_bounds)) c.loop-c.invariant
+    c.merge_at-changed.ensures
 
 pub returns : goal.returns
 returns c =
     equating_end (dep c.args.rule) c.args.rows.now c.loop-c.rows c.args.one c.args.two (cols c.loop-c.todo) c.loop-c.changed
-    c.in-default.ensures.0 (sym c.if-not-agree-on.ensures) c.loop-c.invariant
+    c.in_default.ensures.0 (sym c.if-not-agree_on.ensures) c.loop-c.invariant

@@ -9,14 +9,14 @@ loop-c-init c = filling_start (cols c.args.part) c.args.own
 
 pub loop-c-smaller : goal.loop-c-smaller
 loop-c-smaller c =
-    let e : length (cols c.loop-c.todo) ≡ length (c.in-Some.c.index ∷ cols c.take-first.new.self) = ap length c.in-Some.ensures in
+    let e : length (cols c.loop-c.todo) ≡ length (c.in-Some.c.index ∷ cols c.take_first.new.self) = ap length c.in-Some.ensures in
     omega arith
 
 pub loop-c-preserved : goal.loop-c-preserved
 loop-c-preserved c =
     let small : c.index.result < 16 = omega (arith, c.index.ensures, c.in-Some.c.small) in
-    filling_turn c.loop-c.row c.index.result (cols c.loop-c.todo) (cols c.take-first.new.self) (cols c.args.part) c.args.own small
-    (cols_rising c.loop-c.todo) (c.in-Some.ensures ∙ ap (λ (i : ℕ). i ∷ cols c.take-first.new.self) (sym c.index.ensures)) c.loop-c.invariant
+    filling_turn c.loop-c.row c.index.result (cols c.loop-c.todo) (cols c.take_first.new.self) (cols c.args.part) c.args.own small
+    (cols_rising c.loop-c.todo) (c.in-Some.ensures ∙ ap (λ (i : ℕ). i ∷ cols c.take_first.new.self) (sym c.index.ensures)) c.loop-c.invariant
 
 pub returns : goal.returns
-returns c = filling_end c.loop-c.row (cols c.loop-c.todo) (cols c.args.part) c.args.own c.in-default.ensures.0 c.loop-c.invariant
+returns c = filling_end c.loop-c.row (cols c.loop-c.todo) (cols c.args.part) c.args.own c.in_default.ensures.0 c.loop-c.invariant

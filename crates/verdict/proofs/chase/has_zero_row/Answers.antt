@@ -12,21 +12,21 @@ front f rows i l = ap (λ (v : List Row). any v f) (drop-cons rows i [] l ∙ ap
 pub loop-row-init : goal.loop-row-init
 loop-row-init c = refl
 
-pub returns-then-agree-on : goal.returns-then-agree-on
-returns-then-agree-on c =
+pub returns-then-agree_on : goal.returns-then-agree_on
+returns-then-agree_on c =
     let rows = c.args.rows.now in
     let i = c.loop-row.row-index in
     let f : Row → Bool = λ x. agree (cols c.all-all.result) (zero_row 16) x in
     sym (ap (λ (v : Cols). any rows (λ x. agree v (zero_row 16) x)) (sym c.all-all.ensures)
     ∙ c.loop-row.invariant ∙ front f rows i c.loop-row-test.true
-    ∙ ap (λ (b : Bool). b || any (drop (i + 1) rows) f) (sym c.if-agree-on.ensures))
+    ∙ ap (λ (b : Bool). b || any (drop (i + 1) rows) f) (sym c.if-agree_on.ensures))
 
 pub loop-row-preserved : goal.loop-row-preserved
 loop-row-preserved c =
     let rows = c.args.rows.now in
     let i = c.loop-row.row-index in
     let f : Row → Bool = λ x. agree (cols c.all-all.result) (zero_row 16) x in
-    c.loop-row.invariant ∙ front f rows i c.loop-row-test.true ∙ ap (λ (b : Bool). b || any (drop (i + 1) rows) f) (sym c.if-agree-on.ensures)
+    c.loop-row.invariant ∙ front f rows i c.loop-row-test.true ∙ ap (λ (b : Bool). b || any (drop (i + 1) rows) f) (sym c.if-agree_on.ensures)
 
 pub returns : goal.returns
 returns c =

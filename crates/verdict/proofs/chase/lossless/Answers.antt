@@ -23,8 +23,8 @@ returns c =
     let u = c.chase.new.rows in
     let same : deps c.rules.result.now ≡ ds = ap deps c.rules.ensures in
     let steps : Chased ds (tableau 16 0 ps) u
-    = subst (λ (v : List Row). Chased ds v u) c.lay-out.ensures (subst (λ (v : List Dep). Chased v c.lay-out.new.rows u) same c.chase.ensures.0) in
+    = subst (λ (v : List Row). Chased ds v u) c.lay_out.ensures (subst (λ (v : List Dep). Chased v c.lay_out.new.rows u) same c.chase.ensures.0) in
     let quiet : AllQuiet ds u = subst (λ (v : List Dep). AllQuiet v u) same c.chase.ensures.1 in
-    let decides = chased_decides n 16 ds ps u set.width.narrow (rules_small set) (omega (arith, c.requires.0, c.requires.1)) steps quiet c.has-zero-row-nothing-lost.result
-    (c.has-zero-row-nothing-lost.ensures ∙ ap (λ (w : Width). any u (λ x. agree (columns 0 w.columns) (zero_row 16) x)) c.width.ensures) in
-    record { decides = decides; cleared = c.clear.ensures ∙ ap blank (c.chase.auto.rows ∙ c.lay-out.auto.rows) }
+    let decides = chased_decides n 16 ds ps u set.width.narrow (rules_small set) (omega (arith, c.requires.rows_len, c.requires.rows_nonzero)) steps quiet c.has_zero_row-nothing_lost.result
+    (c.has_zero_row-nothing_lost.ensures ∙ ap (λ (w : Width). any u (λ x. agree (columns 0 w.columns) (zero_row 16) x)) c.width.ensures) in
+    record { decides = decides; cleared = c.clear.ensures ∙ ap blank (c.chase.auto.rows ∙ c.lay_out.auto.rows) }

@@ -24,8 +24,8 @@ loop-i-init c = refl
 
 pub loop-i-preserved : goal.loop-i-preserved
 loop-i-preserved c =
-    turn (fault c.args.merge) c.loop-i.rows (mend (fault c.args.merge) c.args.rows.now) c.loop-i.i c.lower-row.new.row
-    (omega (arith, c.loop-i.auto.rows, c.loop-i-test.true)) c.lower-row.ensures c.loop-i.invariant
+    turn (fault c.args.merge) c.loop-i.rows (mend (fault c.args.merge) c.args.rows.now) c.loop-i.i c.lower_row.new.row
+    (omega (arith, c.loop-i.auto.rows, c.loop-i-test.true)) c.lower_row.ensures c.loop-i.invariant
 
 pub returns : goal.returns
 returns c =

@@ -43,7 +43,7 @@ pub loop-rule-preserved : goal.loop-rule-preserved
 loop-rule-preserved c =
     let t = c.args.rows.now in
     let u = c.loop-rule.rows in
-    let v = c.sweep-rule-changed.new.rows in
+    let v = c.sweep_rule-changed.new.rows in
     let rs = c.args.rules.now in
     let i = c.loop-rule.rule-index in
     let x : Rule = c.rule-item.result in
@@ -51,11 +51,11 @@ loop-rule-preserved c =
     = drop-cons rs i x c.loop-rule-test.true ∙ ap (λ (k : ℕ). get_or rs i x ∷ drop k rs) (sym (add-one i))
     ∙ ap (λ (y : Rule). y ∷ drop (i + 1) rs) (sym c.rule-item.is) in
     let there : In (dep x) (deps rs) = in_deps rs x (subst (λ (y : Rule). In y rs) (sym c.rule-item.is) (in_at rs i x c.loop-rule-test.true)) in
-    sweep_map (deps rs) (Left rs i t × RuleQuiet (dep x) t (length t)) (Left rs (i + 1) t) t v (c.loop-rule.changed || c.sweep-rule-changed.result)
+    sweep_map (deps rs) (Left rs i t × RuleQuiet (dep x) t (length t)) (Left rs (i + 1) t) t v (c.loop-rule.changed || c.sweep_rule-changed.result)
     (λ q. turn rs i x t front q.0 q.1)
-    (sweep_then (deps rs) (Left rs i t) (λ (w : List Row). RuleQuiet (dep x) w (length w)) t u v c.loop-rule.changed c.sweep-rule-changed.result
+    (sweep_then (deps rs) (Left rs i t) (λ (w : List Row). RuleQuiet (dep x) w (length w)) t u v c.loop-rule.changed c.sweep_rule-changed.result
     c.loop-rule.invariant
-    (sweep_more (dep x) (deps rs) (RuleQuiet (dep x) u (length u)) u v c.sweep-rule-changed.result there c.sweep-rule-changed.ensures))
+    (sweep_more (dep x) (deps rs) (RuleQuiet (dep x) u (length u)) u v c.sweep_rule-changed.result there c.sweep_rule-changed.ensures))
 
 pub returns : goal.returns
 returns c =

@@ -35,13 +35,13 @@ returns-then-not-covers c =
     let ps = given_parts c.args.design in
     record { rows = inl refl; told = (Covers, refl, missed_one n ds ps (λ h. c.if-not-covers.ensures ds (subst (λ (w : Width). Condition w.columns ds ps 1) c.requires h)), λ l. absurd (omega arith)) }
 
-pub returns-then-not-none-inside : goal.returns-then-not-none-inside
-returns-then-not-none-inside c =
+pub returns-then-not-none_inside : goal.returns-then-not-none_inside
+returns-then-not-none_inside c =
     let n = c.args.rules.now.width.columns in
     let ds = deps (rules_of c.args.rules.now) in
     let ps = given_parts c.args.design in
     let one : Condition n ds ps 1 = subst (λ (w : Width). Condition w.columns ds ps 1) (sym c.requires) (c.if-not-covers.ensures ds) in
-    let two = sym c.if-not-none-inside.ensures in
+    let two = sym c.if-not-none_inside.ensures in
     record { rows = inl refl; told = (NoneInside, refl, missed_two n ds ps one two, λ l. absurd (omega arith)) }
 
 pub returns-then-tableau-parts : goal.returns-then-tableau-parts
@@ -50,7 +50,7 @@ returns-then-tableau-parts c =
     let ds = deps (rules_of c.args.rules.now) in
     let ps = given_parts c.args.design in
     let one : Condition n ds ps 1 = subst (λ (w : Width). Condition w.columns ds ps 1) (sym c.requires) (c.if-not-covers.ensures ds) in
-    let two = sym c.if-not-none-inside.ensures in
+    let two = sym c.if-not-none_inside.ensures in
     let e = as_many c.args.design in
     record { rows = inl refl; told = (one, two_holds n ds ps two, sym e, omega (arith, c.if-tableau-parts.true)) }
 
@@ -66,7 +66,7 @@ lossless-requires c =
     let k = c.args.design.count in
     let z : k - 0 ≤ length rows = omega (arith, c.if-tableau-parts.false) in
     let t = length-take (k - 0) rows in
-    (omega arith, omega arith, ap (λ (w : Width). w.columns) c.requires)
+    record { rows_len = omega arith; rows_nonzero = omega arith; columns_value = ap (λ (w : Width). w.columns) c.requires }
 
 pub returns-then-not-lossless : goal.returns-then-not-lossless
 returns-then-not-lossless c =
@@ -74,38 +74,38 @@ returns-then-not-lossless c =
     let ds = deps (rules_of c.args.rules.now) in
     let ps = given_parts c.args.design in
     let one : Condition n ds ps 1 = subst (λ (w : Width). Condition w.columns ds ps 1) (sym c.requires) (c.if-not-covers.ensures ds) in
-    let two = sym c.if-not-none-inside.ensures in
+    let two = sym c.if-not-none_inside.ensures in
     let room = enough c.args.design (length c.args.tableau.now) c.if-tableau-parts.false in
     record { rows = inr (cleared c.args.design c.args.tableau.now c.lossless.new.rows c.if-tableau-parts.false c.lossless.ensures.cleared); told = (Lossless, refl, missed_three n ds ps one two c.if-not-lossless.ensures.decides, λ l. room) }
 
-pub returns-then-not-keeps-rules : goal.returns-then-not-keeps-rules
-returns-then-not-keeps-rules c =
+pub returns-then-not-keeps_rules : goal.returns-then-not-keeps_rules
+returns-then-not-keeps_rules c =
     let n = c.args.rules.now.width.columns in
     let ds = deps (rules_of c.args.rules.now) in
     let ps = given_parts c.args.design in
     let one : Condition n ds ps 1 = subst (λ (w : Width). Condition w.columns ds ps 1) (sym c.requires) (c.if-not-covers.ensures ds) in
-    let two = sym c.if-not-none-inside.ensures in
+    let two = sym c.if-not-none_inside.ensures in
     let room = enough c.args.design (length c.args.tableau.now) c.if-tableau-parts.false in
     let same : deps c.rules.result.now ≡ ds = ap deps c.rules.ensures in
-    record { rows = inr (cleared c.args.design c.args.tableau.now c.lossless.new.rows c.if-tableau-parts.false c.lossless.ensures.cleared); told = (RulesKept, refl, missed_four n ds ps one two c.if-not-lossless.ensures.decides (λ k. c.if-not-keeps-rules.ensures (subst (λ (v : List Dep). KeepsRules v ps) (sym same) k)), λ l. room) }
+    record { rows = inr (cleared c.args.design c.args.tableau.now c.lossless.new.rows c.if-tableau-parts.false c.lossless.ensures.cleared); told = (RulesKept, refl, missed_four n ds ps one two c.if-not-lossless.ensures.decides (λ k. c.if-not-keeps_rules.ensures (subst (λ (v : List Dep). KeepsRules v ps) (sym same) k)), λ l. room) }
 
-pub returns-then-not-third-forms : goal.returns-then-not-third-forms
-returns-then-not-third-forms c =
+pub returns-then-not-third_forms : goal.returns-then-not-third_forms
+returns-then-not-third_forms c =
     let n = c.args.rules.now.width.columns in
     let ds = deps (rules_of c.args.rules.now) in
     let ps = given_parts c.args.design in
     let one : Condition n ds ps 1 = subst (λ (w : Width). Condition w.columns ds ps 1) (sym c.requires) (c.if-not-covers.ensures ds) in
-    let two = sym c.if-not-none-inside.ensures in
+    let two = sym c.if-not-none_inside.ensures in
     let room = enough c.args.design (length c.args.tableau.now) c.if-tableau-parts.false in
     let same : deps c.rules.result.now ≡ ds = ap deps c.rules.ensures in
     let again : deps c.rules-2.result.now ≡ ds = ap deps c.rules-2.ensures in
-    let kept = subst (λ (v : List Dep). KeepsRules v ps) same c.if-not-keeps-rules.ensures in record {
+    let kept = subst (λ (v : List Dep). KeepsRules v ps) same c.if-not-keeps_rules.ensures in record {
       rows = inr (cleared c.args.design c.args.tableau.now c.lossless.new.rows c.if-tableau-parts.false c.lossless.ensures.cleared);
       told = (
         ThirdForm,
         refl,
         missed_five n ds ps one two c.if-not-lossless.ensures.decides kept
-            (λ t. c.if-not-third-forms.ensures (λ p h. subst (λ (v : List Dep). IsThirdForm v p.cols) (sym again) (t p h))),
+            (λ t. c.if-not-third_forms.ensures (λ p h. subst (λ (v : List Dep). IsThirdForm v p.cols) (sym again) (t p h))),
         λ l. room,
       );
     }
@@ -116,15 +116,15 @@ returns c =
     let ds = deps (rules_of c.args.rules.now) in
     let ps = given_parts c.args.design in
     let one : Condition n ds ps 1 = subst (λ (w : Width). Condition w.columns ds ps 1) (sym c.requires) (c.if-not-covers.ensures ds) in
-    let two = sym c.if-not-none-inside.ensures in
+    let two = sym c.if-not-none_inside.ensures in
     let room = enough c.args.design (length c.args.tableau.now) c.if-tableau-parts.false in
     let same : deps c.rules.result.now ≡ ds = ap deps c.rules.ensures in
     let again : deps c.rules-2.result.now ≡ ds = ap deps c.rules-2.ensures in
-    let kept = subst (λ (v : List Dep). KeepsRules v ps) same c.if-not-keeps-rules.ensures in record {
+    let kept = subst (λ (v : List Dep). KeepsRules v ps) same c.if-not-keeps_rules.ensures in record {
       rows = inr (cleared c.args.design c.args.tableau.now c.lossless.new.rows c.if-tableau-parts.false c.lossless.ensures.cleared);
       told = (
         meets_all n ds ps one two c.if-not-lossless.ensures.decides kept
-            (λ p h. subst (λ (v : List Dep). IsThirdForm v p.cols) again (c.if-not-third-forms.ensures p h)),
+            (λ p h. subst (λ (v : List Dep). IsThirdForm v p.cols) again (c.if-not-third_forms.ensures p h)),
         room,
       );
     }

@@ -37,10 +37,10 @@ loop-i-preserved c =
     let first = c.put.new.row in
     let own : List ℕ → List ℕ = λ (row : List ℕ). put_list row (at + 2) (sets_in_bytes (take size (drop 3 left))) in
     let part : 3 + size - 3 ≡ size = omega arith in
-    let row_is : own (set (set c.loop-i.row at (get_or left 0 0 + 256 * get_or left 1 0)) (at + 1) (get_or left 2 0)) ≡ c.put-sets.new.row
-    = sym (c.put-sets.ensures ∙ ap (λ (k : ℕ). put_list c.put-in-loop-i-2.new.row (at + 2) (sets_in_bytes (take k (drop 3 left)))) part
+    let row_is : own (set (set c.loop-i.row at (get_or left 0 0 + 256 * get_or left 1 0)) (at + 1) (get_or left 2 0)) ≡ c.put_sets.new.row
+    = sym (c.put_sets.ensures ∙ ap (λ (k : ℕ). put_list c.put-in-loop-i-2.new.row (at + 2) (sets_in_bytes (take k (drop 3 left)))) part
     ∙ ap own (c.put-in-loop-i-2.ensures ∙ ap (λ (v : List ℕ). set v (at + 1) (get_or left 2 0)) c.put-in-loop-i.ensures)) in
-    subst (λ (v : List ℕ). Reading c.args.bytes.now first (c.loop-i.i + 1) (at + (2 + size / 2)) v c.put-sets.new.row) (sym (take_rest left (3 + size)))
+    subst (λ (v : List ℕ). Reading c.args.bytes.now first (c.loop-i.i + 1) (at + (2 + size / 2)) v c.put_sets.new.row) (sym (take_rest left (3 + size)))
     (subst (λ (v : List ℕ). Reading c.args.bytes.now first (c.loop-i.i + 1) (at + (2 + size / 2)) (drop (3 + size) left) v) row_is
     (subst
     (λ (k : ℕ). Reading c.args.bytes.now first (c.loop-i.i + 1) (at + (2 + k / 2)) (drop (3 + k) left) (put_list (set (set c.loop-i.row at (get_or left 0 0 + 256 * get_or left 1 0)) (at + 1) (get_or left 2 0)) (at + 2) (sets_in_bytes (take k (drop 3 left)))))

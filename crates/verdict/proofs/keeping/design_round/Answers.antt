@@ -22,12 +22,12 @@ pub loop-todo-preserved : goal.loop-todo-preserved
 loop-todo-preserved c =
     let ps = given_parts c.loop-todo.todo in
     let s = cols c.loop-todo.all in
-    let t = cols c.part-round-all.result in
-    let next : Same t (round (get_or ps 0 no_part).rules s) = subst (λ (v : List Dep). Same t (round v s)) c.first-rules.ensures c.part-round-all.ensures in
+    let t = cols c.part_round-all.result in
+    let next : Same t (round (get_or ps 0 no_part).rules s) = subst (λ (v : List Dep). Same t (round v s)) c.first_rules.ensures c.part_round-all.ensures in
     part_turn ps (given_parts c.rest-todo.result) (cols c.in-Some.field-0) s t (round (all_rules (given_parts c.args.design)) (cols c.args.start))
     c.in-Some.ensures c.rest-todo.ensures next c.loop-todo.invariant
 
 pub returns : goal.returns
 returns c =
     parts_end (given_parts c.loop-todo.todo) (cols c.loop-todo.all) (round (all_rules (given_parts c.args.design)) (cols c.args.start))
-    c.in-default.ensures c.loop-todo.invariant
+    c.in_default.ensures c.loop-todo.invariant

@@ -25,16 +25,16 @@ none ms rs e = ap (λ (v : List Rule). do_follow ms (deps v)) e
 pub loop-rule-init : goal.loop-rule-init
 loop-rule-init c = refl
 
-pub returns-then-not-is-subset : goal.returns-then-not-is-subset
-returns-then-not-is-subset c =
+pub returns-then-not-is_subset : goal.returns-then-not-is_subset
+returns-then-not-is_subset c =
     let ms = all_rules (given_parts c.args.design) in
     let rs = c.args.rules.now in
     let i = c.loop-rule.rule-index in
     let x = c.rule-item.result in
     sym (c.loop-rule.invariant ∙ front ms rs i x c.loop-rule-test.true c.rule-item.is
     ∙ ap (λ (b : Bool). b && do_follow ms (deps (drop (i + 1) rs)))
-    (sym (c.if-not-is-subset.ensures
-    ∙ all_same (cols x.right) (cols x.right) (cols c.design-closure-fixed.result) (closure ms (cols x.left)) (λ z. refl) c.design-closure-fixed.ensures.computed)))
+    (sym (c.if-not-is_subset.ensures
+    ∙ all_same (cols x.right) (cols x.right) (cols c.design_closure-fixed.result) (closure ms (cols x.left)) (λ z. refl) c.design_closure-fixed.ensures.computed)))
 
 pub loop-rule-preserved : goal.loop-rule-preserved
 loop-rule-preserved c =
@@ -44,8 +44,8 @@ loop-rule-preserved c =
     let x = c.rule-item.result in
     c.loop-rule.invariant ∙ front ms rs i x c.loop-rule-test.true c.rule-item.is
     ∙ ap (λ (b : Bool). b && do_follow ms (deps (drop (i + 1) rs)))
-    (sym (c.if-not-is-subset.ensures
-    ∙ all_same (cols x.right) (cols x.right) (cols c.design-closure-fixed.result) (closure ms (cols x.left)) (λ z. refl) c.design-closure-fixed.ensures.computed))
+    (sym (c.if-not-is_subset.ensures
+    ∙ all_same (cols x.right) (cols x.right) (cols c.design_closure-fixed.result) (closure ms (cols x.left)) (λ z. refl) c.design_closure-fixed.ensures.computed))
 
 pub returns : goal.returns
 returns c =

@@ -53,10 +53,10 @@ module _ (ds : List Dep) (ps : List Part) where
   decided a true e = kept a (sym e)
   decided a false e = λ k. true≢false (sym (keeps k).1 ∙ sym e)
 
-pub returns-then-not-all-stand : goal.returns-then-not-all-stand
-returns-then-not-all-stand c =
-    λ k. true≢false (sym (keeps (deps c.args.rules.now) (given_parts c.args.design) k).0 ∙ sym c.if-not-all-stand.ensures)
+pub returns-then-not-all_stand : goal.returns-then-not-all_stand
+returns-then-not-all_stand c =
+    λ k. true≢false (sym (keeps (deps c.args.rules.now) (given_parts c.args.design) k).0 ∙ sym c.if-not-all_stand.ensures)
 
 pub returns : goal.returns
 returns c =
-    decided (deps c.args.rules.now) (given_parts c.args.design) (sym c.if-not-all-stand.ensures) c.given-follow.result c.given-follow.ensures
+    decided (deps c.args.rules.now) (given_parts c.args.design) (sym c.if-not-all_stand.ensures) c.given_follow.result c.given_follow.ensures

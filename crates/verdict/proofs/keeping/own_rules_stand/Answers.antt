@@ -24,4 +24,4 @@ loop-rule-preserved c =
 
 pub returns : goal.returns
 returns c =
-    sym (c.loop-rule.invariant ∙ every_end (does_stand (deps c.args.rules.now) (cols c.args.part)) (own_of c.loop-rule.todo) c.in-default.ensures)
+    sym (c.loop-rule.invariant ∙ every_end (does_stand (deps c.args.rules.now) (cols c.args.part)) (own_of c.loop-rule.todo) c.in_default.ensures)

@@ -9,7 +9,7 @@ use Rattle.verdict.specs.Given.{own_of}
 use Rattle.verdict.proofs.GivenLoops.{shorter}
 use Rattle.verdict.proofs.OwnRounds.{rule_turn, rules_end}
 use Rattle.verdict.proofs.keeping.part_round.Goals as goal
-use Rattle.verdict.proofs.keeping.part_round.Goals.{then-is-subset, else-is-subset}
+use Rattle.verdict.proofs.keeping.part_round.Goals.{then-is_subset, else-is_subset}
 
 pub loop-rule-init : goal.loop-rule-init
 loop-rule-init c = λ d. refl
@@ -21,15 +21,15 @@ pub loop-rule-preserved : goal.loop-rule-preserved
 loop-rule-preserved c =
     let x = c.in-Some.rule in
     let s = c.loop-rule.all in
-    let next : Same (cols c.if-is-subset.all) (step (dep x) (cols s))
-    = elim c.if-is-subset.branch [
-      | then-is-subset w ↦ subst (λ (t : ColumnSet). Same (cols t) (step (dep x) (cols s))) (sym w.all-is)
-          (step_fires x s w.union-all.result (sym w.if-is-subset.ensures) w.union-all.ensures)
-      | else-is-subset w ↦ subst (λ (t : ColumnSet). Same (cols t) (step (dep x) (cols s))) (sym w.all-is) (step_idle x s (sym w.if-is-subset.ensures))
+    let next : Same (cols c.if-is_subset.all) (step (dep x) (cols s))
+    = elim c.if-is_subset.branch [
+      | then-is_subset w ↦ subst (λ (t : ColumnSet). Same (cols t) (step (dep x) (cols s))) (sym w.all-is)
+          (step_fires x s w.union-all.result (sym w.if-is_subset.ensures) w.union-all.ensures)
+      | else-is_subset w ↦ subst (λ (t : ColumnSet). Same (cols t) (step (dep x) (cols s))) (sym w.all-is) (step_idle x s (sym w.if-is_subset.ensures))
     ] in
-    rule_turn (own_of c.loop-rule.todo) (own_of c.rest-todo.result) (dep x) (cols s) (cols c.if-is-subset.all)
+    rule_turn (own_of c.loop-rule.todo) (own_of c.rest-todo.result) (dep x) (cols s) (cols c.if-is_subset.all)
     (round (own_of c.args.own) (cols c.args.start)) c.in-Some.ensures c.rest-todo.ensures next c.loop-rule.invariant
 
 pub returns : goal.returns
 returns c =
-    rules_end (own_of c.loop-rule.todo) (cols c.loop-rule.all) (round (own_of c.args.own) (cols c.args.start)) c.in-default.ensures c.loop-rule.invariant
+    rules_end (own_of c.loop-rule.todo) (cols c.loop-rule.all) (round (own_of c.args.own) (cols c.args.start)) c.in_default.ensures c.loop-rule.invariant

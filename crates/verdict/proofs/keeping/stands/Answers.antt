@@ -11,6 +11,6 @@ returns c =
     let ds = deps c.args.rules.now in
     let l = cols c.args.rule.left in
     let r = cols c.args.rule.right in
-    c.is-subset-3.ensures
+    c.is_subset-3.ensures
     ∙ all_same r r (cols c.closure.result) (closure ds l) (λ x. refl) c.closure.ensures.computed
-    ∙ ap₂ (λ (a b : Bool). (a && b) && does_fix ds l r) c.if-not-is-subset.ensures c.if-not-is-subset-2.ensures
+    ∙ ap₂ (λ (a b : Bool). (a && b) && does_fix ds l r) c.if-not-is_subset.ensures c.if-not-is_subset-2.ensures

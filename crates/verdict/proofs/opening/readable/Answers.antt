@@ -14,12 +14,12 @@ loop-left-init c =
     let some· : 0 < length xs = omega (arith, c.if-lent-eq0.false) in
     readable_whole n xs some· ∙ ap (λ (v : List ℕ). is_whole n (get_or xs 0 0) v) (sym c.behind-numbers.ensures)
 
-pub returns-in-default : goal.returns-in-default
-returns-in-default c =
+pub returns-in_default : goal.returns-in_default
+returns-in_default c =
     let n = c.args.width.columns in
     let xs = c.loop-left.numbers.now in
     sym (c.loop-left.invariant ∙ whole_front n c.loop-left.left xs c.loop-left-test.true
-    ∙ ap (λ (b : Bool). b && is_whole n (c.loop-left.left - 1) (drop (size xs) xs)) c.in-default.ensures)
+    ∙ ap (λ (b : Bool). b && is_whole n (c.loop-left.left - 1) (drop (size xs) xs)) c.in_default.ensures)
 
 pub loop-left-preserved : goal.loop-left-preserved
 loop-left-preserved c =

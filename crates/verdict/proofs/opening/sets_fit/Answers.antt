@@ -26,13 +26,13 @@ loop-i-init c =
     let z : c.args.count ≡ c.args.count - 0 = omega arith in
     ap (λ (v : ℕ). all_sets_fit c.args.width.columns v c.args.numbers.now) z
 
-pub returns-in-default : goal.returns-in-default
-returns-in-default c =
+pub returns-in_default : goal.returns-in_default
+returns-in_default c =
     let n = c.args.width.columns in
     let xs = c.args.numbers.now in
     let i = c.loop-i.i in
     sym (c.loop-i.invariant ∙ front n c.args.count i xs c.loop-i-test.true
-    ∙ ap (λ (b : Bool). b && all_sets_fit n (c.args.count - (i + 1)) (drop (i + 1) xs)) (le-ltb (get_or xs i 0) (2 ^ n) c.in-default.ensures))
+    ∙ ap (λ (b : Bool). b && all_sets_fit n (c.args.count - (i + 1)) (drop (i + 1) xs)) (le-ltb (get_or xs i 0) (2 ^ n) c.in_default.ensures))
 
 pub loop-i-preserved : goal.loop-i-preserved
 loop-i-preserved c =

@@ -14,22 +14,22 @@ second_false false = refl
 pub loop-other-init : goal.loop-other-init
 loop-other-init c = refl
 
-pub returns-then-is-subset : goal.returns-then-is-subset
-returns-then-is-subset c =
+pub returns-then-is_subset : goal.returns-then-is_subset
+returns-then-is_subset c =
     let ps = given_parts c.loop-other.todo in
     let x = headpart c.in-Some.other ps in
     let p = cols c.args.part in
     sym (c.loop-other.invariant ∙ every_stop (is_apart p) ps x c.in-Some.ensures
-    (ap (λ (b : Bool). not b && not (all_in (cols c.in-Some.other) p)) (sym c.if-is-subset.ensures)))
+    (ap (λ (b : Bool). not b && not (all_in (cols c.in-Some.other) p)) (sym c.if-is_subset.ensures)))
 
-pub returns-then-is-subset-2 : goal.returns-then-is-subset-2
-returns-then-is-subset-2 c =
+pub returns-then-is_subset-2 : goal.returns-then-is_subset-2
+returns-then-is_subset-2 c =
     let ps = given_parts c.loop-other.todo in
     let x = headpart c.in-Some.other ps in
     let p = cols c.args.part in
     let q = cols c.in-Some.other in
     sym (c.loop-other.invariant ∙ every_stop (is_apart p) ps x c.in-Some.ensures
-    (ap (λ (b : Bool). not (all_in p q) && not b) (sym c.if-is-subset-2.ensures) ∙ second_false (not (all_in p q))))
+    (ap (λ (b : Bool). not (all_in p q) && not b) (sym c.if-is_subset-2.ensures) ∙ second_false (not (all_in p q))))
 
 pub loop-other-smaller : goal.loop-other-smaller
 loop-other-smaller c =
@@ -42,7 +42,7 @@ loop-other-preserved c =
     let x = headpart c.in-Some.other ps in
     let p = cols c.args.part in
     c.loop-other.invariant ∙ every_turn (is_apart p) ps x (given_parts c.rest-todo.result) c.in-Some.ensures c.rest-todo.ensures
-    (ap₂ (λ (a b : Bool). not a && not b) (sym c.if-is-subset.ensures) (sym c.if-is-subset-2.ensures))
+    (ap₂ (λ (a b : Bool). not a && not b) (sym c.if-is_subset.ensures) (sym c.if-is_subset-2.ensures))
 
 pub returns : goal.returns
-returns c = sym (c.loop-other.invariant ∙ every_end (is_apart (cols c.args.part)) (given_parts c.loop-other.todo) c.in-default.ensures)
+returns c = sym (c.loop-other.invariant ∙ every_end (is_apart (cols c.args.part)) (given_parts c.loop-other.todo) c.in_default.ensures)

@@ -25,5 +25,5 @@ pub returns : goal.returns
 returns c ds =
     let g = c.args.design in
     covering_end g.width.columns ds (given_parts g) (cols c.all-missing.result) (cols c.loop-part.missing) (given_parts c.loop-part.todo) g.width.some
-    (parts_within g.width.columns g.count g.numbers.now) c.all-missing.ensures c.in-default.ensures c.loop-part.invariant c.is-subset.result
-    (c.is-subset.ensures ∙ ap (λ (v : Cols). all_in (cols c.loop-part.missing) v) c.empty.ensures)
+    (parts_within g.width.columns g.count g.numbers.now) c.all-missing.ensures c.in_default.ensures c.loop-part.invariant c.is_subset.result
+    (c.is_subset.ensures ∙ ap (λ (v : Cols). all_in (cols c.loop-part.missing) v) c.empty.ensures)

@@ -36,4 +36,4 @@ loop-part-preserved c =
     ∙ ap is_none_inside (c.rest.ensures ∙ sym c.rest-todo.ensures)
 
 pub returns : goal.returns
-returns c = sym (c.loop-part.invariant ∙ ap is_none_inside c.in-default.ensures)
+returns c = sym (c.loop-part.invariant ∙ ap is_none_inside c.in_default.ensures)

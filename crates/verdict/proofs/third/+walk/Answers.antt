@@ -58,19 +58,19 @@ finds_both ds p x rest c f g r a b j =
       loosed = λ d. j.loosed d ∙ ap₂ (λ (m n : Bool). m || n) (a.loosed d) (b.loosed d);
     }
 
-pub returns-in-default : goal.returns-in-default
-returns-in-default t c =
+pub returns-in_default : goal.returns-in_default
+returns-in_default t c =
     subst (λ (v : Cols). Finds (deps c.args.rules.now) (cols c.args.branch.part) (cols c.args.branch.set) v c.visit.result)
-    (sym c.in-default.ensures.0) c.visit.ensures
+    (sym c.in_default.ensures.0) c.visit.ensures
 
 pub walk-without-requires : goal.walk-without-requires
 walk-without-requires t c =
-    let e : length (cols c.args.branch.left) ≡ length (c.in-Some.c.index ∷ cols c.take-first.new.self) = ap length c.in-Some.ensures in
+    let e : length (cols c.args.branch.left) ≡ length (c.in-Some.c.index ∷ cols c.take_first.new.self) = ap length c.in-Some.ensures in
     search rules
 
 pub walk-with-requires : goal.walk-with-requires
 walk-with-requires t c =
-    let e : length (cols c.args.branch.left) ≡ length (c.in-Some.c.index ∷ cols c.take-first.new.self) = ap length c.in-Some.ensures in
+    let e : length (cols c.args.branch.left) ≡ length (c.in-Some.c.index ∷ cols c.take_first.new.self) = ap length c.in-Some.ensures in
     search rules
 
 pub joined-requires : goal.joined-requires
@@ -78,7 +78,7 @@ joined-requires t c =
     let ds = deps c.args.rules.now in
     let p = cols c.args.branch.part in
     let x = cols c.args.branch.set in
-    let rest = cols c.take-first.new.self in
+    let rest = cols c.take_first.new.self in
     let i = c.in-Some.c.index in
     let y = cols c.with-set.result in
     let a = c.walk-without.ensures.count in
@@ -91,7 +91,7 @@ returns t c =
     let ds = deps c.args.rules.now in
     let p = cols c.args.branch.part in
     let x = cols c.args.branch.set in
-    let rest = cols c.take-first.new.self in
+    let rest = cols c.take_first.new.self in
     let i = c.in-Some.c.index in
     let y = cols c.with-set.result in
     subst (λ (v : Cols). Finds ds p x v c.joined.result) (sym c.in-Some.ensures)

@@ -26,5 +26,5 @@ pub returns : goal.returns
 returns c =
     let ds = deps c.args.rules.now in
     let p = cols c.args.part in
-    decided ds p c.walk-found.result (subst (λ (v : Cols). Finds ds p v p c.walk-found.result) c.empty-set.ensures c.walk-found.ensures) c.is-subset.result
-    c.is-subset.ensures
+    decided ds p c.walk-found.result (subst (λ (v : Cols). Finds ds p v p c.walk-found.result) c.empty-set.ensures c.walk-found.ensures) c.is_subset.result
+    c.is_subset.ensures

@@ -10,11 +10,11 @@ use Rattle.verdict.proofs.third.third_forms.Goals as goal
 pub loop-part-init : goal.loop-part-init
 loop-part-init c = (λ p h. inl h, λ p h. h)
 
-pub returns-then-not-third-form : goal.returns-then-not-third-form
-returns-then-not-third-form c =
+pub returns-then-not-third_form : goal.returns-then-not-third_form
+returns-then-not-third_form c =
     let ps = given_parts c.loop-part.todo in
     let x = headpart c.in-Some.part ps in
-    λ f. c.if-not-third-form.ensures (f x (c.loop-part.invariant.1 x (subst (λ (v : List Part). In x v) (sym c.in-Some.ensures) (inl refl))))
+    λ f. c.if-not-third_form.ensures (f x (c.loop-part.invariant.1 x (subst (λ (v : List Part). In x v) (sym c.in-Some.ensures) (inl refl))))
 
 pub loop-part-smaller : goal.loop-part-smaller
 loop-part-smaller c =
@@ -30,7 +30,7 @@ loop-part-preserved c =
           elim (c.loop-part.invariant.0 p h) [
             | inl i ↦
                 elim (subst (λ (v : List Part). In p v) c.in-Some.ensures i) [
-                  | inl e ↦ inr (subst (λ (y : Part). IsThirdForm ds y.cols) e c.if-not-third-form.ensures)
+                  | inl e ↦ inr (subst (λ (y : Part). IsThirdForm ds y.cols) e c.if-not-third_form.ensures)
                   | inr k ↦ inl (subst (λ (v : List Part). In p v) (sym c.rest-todo.ensures) k)
                 ]
             | inr t ↦ inr t
@@ -41,4 +41,4 @@ loop-part-preserved c =
 
 pub returns : goal.returns
 returns c =
-    λ p h. elim (c.loop-part.invariant.0 p h) [ inl i ↦ absurd (subst (λ (v : List Part). In p v) c.in-default.ensures i) | inr t ↦ t ]
+    λ p h. elim (c.loop-part.invariant.0 p h) [ inl i ↦ absurd (subst (λ (v : List Part). In p v) c.in_default.ensures i) | inr t ↦ t ]

@@ -11,14 +11,14 @@ nothing : (s : Cols) (a : ℕ) → s ≡ [] → has s a ≡ false
 unfolding has
 nothing s a e = ap (λ (v : Cols). has v a) e
 
-pub returns-then-is-subset : goal.returns-then-is-subset
+pub returns-then-is_subset : goal.returns-then-is_subset
 unfolding superkeys is_in_keys is_loose
-returns-then-is-subset c =
+returns-then-is_subset c =
     let ds = deps c.args.rules.now in
     let p = cols c.args.part in
     let x = cols c.args.set in
     let yes· : does_fix ds x p ≡ true
-    = sym (c.if-is-subset.ensures ∙ all_same p p (cols c.closure-fixed.result) (closure ds x) (λ d. refl) c.closure-fixed.ensures.computed) in
+    = sym (c.if-is_subset.ensures ∙ all_same p p (cols c.closure-fixed.result) (closure ds x) (λ d. refl) c.closure-fixed.ensures.computed) in
     record {
       count = sym (ap (λ (b : Bool). pick b 1 0) yes·);
       primes = λ a. nothing (cols c.empty-prime.result) a c.empty-prime.ensures;
@@ -34,7 +34,7 @@ returns c =
     let p = cols c.args.part in
     let x = cols c.args.set in
     let no· : does_fix ds x p ≡ false
-    = sym (c.if-is-subset.ensures ∙ all_same p p (cols c.closure-fixed.result) (closure ds x) (λ d. refl) c.closure-fixed.ensures.computed) in
+    = sym (c.if-is_subset.ensures ∙ all_same p p (cols c.closure-fixed.result) (closure ds x) (λ d. refl) c.closure-fixed.ensures.computed) in
     record {
       count = sym (ap (λ (b : Bool). pick b 1 0) no·);
       primes = λ a. nothing (cols c.empty-prime.result) a c.empty-prime.ensures;

@@ -3,8 +3,8 @@ use Rattle.parts.proofs.Formed.{readable_says}
 use Rattle.parts.proofs.Walks.{shares_fit, share_small}
 use Rattle.parts.proofs.design_parts.DesignParts.size.Goals as goal
 
-pub overflow-mul-result : goal.overflow-mul-result
-overflow-mul-result c =
+pub overflow_mul-result : goal.overflow_mul-result
+overflow_mul-result c =
     let n = c.args.self.width.columns in
     let k = get_or c.args.self.numbers.now 0 0 in
     let e : c.room.result * (c.columns.result + 1) ≡ c.args.cells / (k * (n + 1)) * (n + 1) = ap₂ (λ (a b : ℕ). a * (b + 1)) c.room.ensures c.columns.ensures in

@@ -5,5 +5,5 @@ use Rattle.parts.proofs.own_part.OwnPart.rules.Goals as goal
 pub bounds-self-1 : goal.bounds-self-1
 bounds-self-1 c = omega (arith, (whole_says c.args.self.width.columns c.args.self.numbers.now c.args.self.sound).long)
 
-pub overflow-cast-result : goal.overflow-cast-result
-overflow-cast-result c = let f = (whole_says c.args.self.width.columns c.args.self.numbers.now c.args.self.sound).few in search rules
+pub overflow_cast-result : goal.overflow_cast-result
+overflow_cast-result c = let f = (whole_says c.args.self.width.columns c.args.self.numbers.now c.args.self.sound).few in search rules

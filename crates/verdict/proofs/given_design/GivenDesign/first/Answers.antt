@@ -16,10 +16,10 @@ bounds-self-0 c =
     let g = c.args.self in
     omega (arith, (part_whole g.count g.numbers.now c.if-self-eq0.false g.whole).front)
 
-pub returns-in-default : goal.returns-in-default
-returns-in-default c =
+pub returns-in_default : goal.returns-in_default
+returns-in_default c =
     let g = c.args.self in
-    absurd (omega (arith, (part_fits g.width.columns g.count g.numbers.now c.if-self-eq0.false g.fits).set_fits, c.in-default.ensures))
+    absurd (omega (arith, (part_fits g.width.columns g.count g.numbers.now c.if-self-eq0.false g.fits).set_fits, c.in_default.ensures))
 
 pub returns : goal.returns
 returns c =

@@ -6,8 +6,8 @@ use Rattle.schema.specs.Layout.{parts_in, all_sets_fit}
 use Rattle.verdict.proofs.GivenWalk.{no_rule, no_sets, no_parts, first_part, part_fits, part_whole}
 use Rattle.verdict.proofs.given_design.GivenDesign.first_rules.Goals as goal
 
-pub invariant-of-result : goal.invariant-of-result
-invariant-of-result c = (omega arith, (no_sets c.args.self.width.columns c.behind-numbers.result.now, tt))
+pub invariant_of-result : goal.invariant_of-result
+invariant_of-result c = record { whole = omega arith; fits = no_sets c.args.self.width.columns c.behind-numbers.result.now }
 
 pub returns-then-self-eq0 : goal.returns-then-self-eq0
 returns-then-self-eq0 c =
@@ -20,17 +20,15 @@ bounds-self-1 c =
     let g = c.args.self in
     omega (arith, (part_whole g.count g.numbers.now c.if-self-eq0.false g.whole).front)
 
-pub invariant-of-result-2 : goal.invariant-of-result-2
-invariant-of-result-2 c =
+pub invariant_of-result-2 : goal.invariant_of-result-2
+invariant_of-result-2 c =
     let g = c.args.self in
-    let xs = g.numbers.now in (
-      subst (λ (v : List ℕ). 2 * get_or xs 1 0 ≤ length v) (sym c.behind-numbers.ensures) (part_whole g.count xs c.if-self-eq0.false g.whole).sets,
-      (
-        subst (λ (v : List ℕ). all_sets_fit g.width.columns (2 * get_or xs 1 0) v ≡ true) (sym c.behind-numbers.ensures)
-            (part_fits g.width.columns g.count xs c.if-self-eq0.false g.fits).rules_fit,
-        tt,
-      ),
-    )
+    let xs = g.numbers.now in
+    record {
+      whole = subst (λ (v : List ℕ). 2 * get_or xs 1 0 ≤ length v) (sym c.behind-numbers.ensures) (part_whole g.count xs c.if-self-eq0.false g.whole).sets;
+      fits = subst (λ (v : List ℕ). all_sets_fit g.width.columns (2 * get_or xs 1 0) v ≡ true) (sym c.behind-numbers.ensures)
+          (part_fits g.width.columns g.count xs c.if-self-eq0.false g.fits).rules_fit;
+    }
 
 pub returns : goal.returns
 returns c =

@@ -14,31 +14,29 @@ bounds-self-1 c =
     let g = c.args.self in
     omega (arith, (part_whole g.count g.numbers.now c.if-self-eq0.false g.whole).front)
 
-pub overflow-mul-self : goal.overflow-mul-self
-overflow-mul-self c =
+pub overflow_mul-self : goal.overflow_mul-self
+overflow_mul-self c =
     let g = c.args.self in
     let h = (part_whole g.count g.numbers.now c.if-self-eq0.false g.whole).front in
     let f = c.ranges.self.0 in
     search rules
 
-pub overflow-add-self : goal.overflow-add-self
-overflow-add-self c =
+pub overflow_add-self : goal.overflow_add-self
+overflow_add-self c =
     let g = c.args.self in
     let h = (part_whole g.count g.numbers.now c.if-self-eq0.false g.whole).front in
     let f = c.ranges.self.0 in
     search rules
 
-pub invariant-of-result : goal.invariant-of-result
-invariant-of-result c =
+pub invariant_of-result : goal.invariant_of-result
+invariant_of-result c =
     let g = c.args.self in
-    let xs = g.numbers.now in (
-      subst (λ (v : List ℕ). extent (g.count - 1) v ≤ length v) (sym c.behind-numbers.ensures) (part_whole g.count xs c.if-self-eq0.false g.whole).behind,
-      (
-        subst (λ (v : List ℕ). parts_fit g.width.columns (g.count - 1) v ≡ true) (sym c.behind-numbers.ensures)
-            (part_fits g.width.columns g.count xs c.if-self-eq0.false g.fits).rest_fits,
-        tt,
-      ),
-    )
+    let xs = g.numbers.now in
+    record {
+      whole = subst (λ (v : List ℕ). extent (g.count - 1) v ≤ length v) (sym c.behind-numbers.ensures) (part_whole g.count xs c.if-self-eq0.false g.whole).behind;
+      fits = subst (λ (v : List ℕ). parts_fit g.width.columns (g.count - 1) v ≡ true) (sym c.behind-numbers.ensures)
+          (part_fits g.width.columns g.count xs c.if-self-eq0.false g.fits).rest_fits;
+    }
 
 pub returns : goal.returns
 returns c =

@@ -10,17 +10,15 @@ returns-then-self-eq0 c =
     let e = no_rule c.args.self.width.columns c.args.self.count c.args.self.numbers.now c.if-self-eq0.true in
     e ∙ sym (ap (λ (v : List Dep). drop 1 v) e)
 
-pub invariant-of-result : goal.invariant-of-result
-invariant-of-result c =
+pub invariant_of-result : goal.invariant_of-result
+invariant_of-result c =
     let o = c.args.self in
-    let xs = o.numbers.now in (
-      subst (λ (v : List ℕ). 2 * (o.count - 1) ≤ length v) (sym c.behind-numbers.ensures) (omega (arith, length-drop 2 xs, o.whole)),
-      (
-        subst (λ (v : List ℕ). all_sets_fit o.width.columns (2 * (o.count - 1)) v ≡ true) (sym c.behind-numbers.ensures)
-            (rule_fits o.width.columns o.count xs c.if-self-eq0.false o.fits).2,
-        tt,
-      ),
-    )
+    let xs = o.numbers.now in
+    record {
+      whole = subst (λ (v : List ℕ). 2 * (o.count - 1) ≤ length v) (sym c.behind-numbers.ensures) (omega (arith, length-drop 2 xs, o.whole));
+      fits = subst (λ (v : List ℕ). all_sets_fit o.width.columns (2 * (o.count - 1)) v ≡ true) (sym c.behind-numbers.ensures)
+          (rule_fits o.width.columns o.count xs c.if-self-eq0.false o.fits).2;
+    }
 
 pub returns : goal.returns
 returns c =
