@@ -14,8 +14,8 @@ returns-then-deed-eq0 c =
     let g = c.args.cells.now in
     let e = put_deed n c.args.deed.now c.requires c.if-deed-eq0.true in
     record {
-      told = c.put-in.ensures.told ∙ ap (λ (x : Deed). deed_told n (room_of n d g) (design_in n d) (held_of n d g) x) e;
-      after = subst (λ (x : Deed). After n d g c.put-in.new.cells (deed_held (design_in n d) (held_of n d g) x) c.put-in.result) e c.put-in.ensures.after;
+      told = c.put_in.ensures.told ∙ ap (λ (x : Deed). deed_told n (room_of n d g) (design_in n d) (held_of n d g) x) e;
+      after = subst (λ (x : Deed). After n d g c.put_in.new.cells (deed_held (design_in n d) (held_of n d g) x) c.put_in.result) e c.put_in.ensures.after;
     }
 
 pub returns-else-deed-eq0 : goal.returns-else-deed-eq0
@@ -25,6 +25,6 @@ returns-else-deed-eq0 c =
     let g = c.args.cells.now in
     let e = take_deed n c.args.deed.now c.requires c.if-deed-eq0.false in
     record {
-      told = c.take-out.ensures.told ∙ ap (λ (x : Deed). deed_told n (room_of n d g) (design_in n d) (held_of n d g) x) e;
-      after = subst (λ (x : Deed). After n d g c.take-out.new.cells (deed_held (design_in n d) (held_of n d g) x) c.take-out.result) e c.take-out.ensures.after;
+      told = c.take_out.ensures.told ∙ ap (λ (x : Deed). deed_told n (room_of n d g) (design_in n d) (held_of n d g) x) e;
+      after = subst (λ (x : Deed). After n d g c.take_out.new.cells (deed_held (design_in n d) (held_of n d g) x) c.take_out.result) e c.take_out.ensures.after;
     }

@@ -6,31 +6,31 @@ use Rattle.register.proofs.day_bytes.day_rest.Goals as goal
 pub returns-then-answered-bytes : goal.returns-then-answered-bytes
 returns-then-answered-bytes c =
     nothing_left c.args.width.columns c.args.answered c.args.bytes.now
-    (subst (λ (w : ℕ). length c.args.bytes.now / w < c.args.answered) c.deed-size-size.ensures c.if-answered-bytes.true)
+    (subst (λ (w : ℕ). length c.args.bytes.now / w < c.args.answered) c.deed_size-size.ensures c.if-answered-bytes.true)
 
-pub overflow-mul-left : goal.overflow-mul-left
-overflow-mul-left c =
-    let h : c.args.answered * c.deed-size-size.result ≤ length c.args.bytes.now = answered_fits c.deed-size-size.result c.args.answered c.args.bytes.now c.if-answered-bytes.false in
+pub overflow_mul-left : goal.overflow_mul-left
+overflow_mul-left c =
+    let h : c.args.answered * c.deed_size-size.result ≤ length c.args.bytes.now = answered_fits c.deed_size-size.result c.args.answered c.args.bytes.now c.if-answered-bytes.false in
     search rules
 
-pub slice-bounds-left-count : goal.slice-bounds-left-count
-slice-bounds-left-count c = omega (arith, answered_fits c.deed-size-size.result c.args.answered c.args.bytes.now c.if-answered-bytes.false)
+pub slice_bounds-left-count : goal.slice_bounds-left-count
+slice_bounds-left-count c = omega (arith, answered_fits c.deed_size-size.result c.args.answered c.args.bytes.now c.if-answered-bytes.false)
 
-pub slice-bounds-left-start : goal.slice-bounds-left-start
-slice-bounds-left-start c = omega (arith, answered_fits c.deed-size-size.result c.args.answered c.args.bytes.now c.if-answered-bytes.false)
+pub slice_bounds-left-start : goal.slice_bounds-left-start
+slice_bounds-left-start c = omega (arith, answered_fits c.deed_size-size.result c.args.answered c.args.bytes.now c.if-answered-bytes.false)
 
 pub returns-then-left-eq0 : goal.returns-then-left-eq0
-returns-then-left-eq0 c = rest_ended c.args.width.columns (take (length c.args.bytes.now - c.args.answered * c.deed-size-size.result) (drop (c.args.answered * c.deed-size-size.result) c.args.bytes.now)) _ (left_is c.args.width.columns c.deed-size-size.result c.args.answered c.args.bytes.now c.deed-size-size.ensures) c.if-left-eq0.true
+returns-then-left-eq0 c = rest_ended c.args.width.columns (take (length c.args.bytes.now - c.args.answered * c.deed_size-size.result) (drop (c.args.answered * c.deed_size-size.result) c.args.bytes.now)) _ (left_is c.args.width.columns c.deed_size-size.result c.args.answered c.args.bytes.now c.deed_size-size.ensures) c.if-left-eq0.true
 
 pub returns-then-left-gt1 : goal.returns-then-left-gt1
-returns-then-left-gt1 c = rest_none c.args.width.columns (take (length c.args.bytes.now - c.args.answered * c.deed-size-size.result) (drop (c.args.answered * c.deed-size-size.result) c.args.bytes.now)) _ (left_is c.args.width.columns c.deed-size-size.result c.args.answered c.args.bytes.now c.deed-size-size.ensures) c.if-left-eq0.false c.if-left-gt1.true
+returns-then-left-gt1 c = rest_none c.args.width.columns (take (length c.args.bytes.now - c.args.answered * c.deed_size-size.result) (drop (c.args.answered * c.deed_size-size.result) c.args.bytes.now)) _ (left_is c.args.width.columns c.deed_size-size.result c.args.answered c.args.bytes.now c.deed_size-size.ensures) c.if-left-eq0.false c.if-left-gt1.true
 
 pub returns-then-left-size : goal.returns-then-left-size
 returns-then-left-size c =
-    rest_whole c.args.width.columns (take (length c.args.bytes.now - c.args.answered * c.deed-size-size.result) (drop (c.args.answered * c.deed-size-size.result) c.args.bytes.now)) _ (left_is c.args.width.columns c.deed-size-size.result c.args.answered c.args.bytes.now c.deed-size-size.ensures) c.if-left-eq0.false c.if-left-gt1.false
-    (omega (arith, c.deed-size-size.ensures, c.if-left-size.true))
+    rest_whole c.args.width.columns (take (length c.args.bytes.now - c.args.answered * c.deed_size-size.result) (drop (c.args.answered * c.deed_size-size.result) c.args.bytes.now)) _ (left_is c.args.width.columns c.deed_size-size.result c.args.answered c.args.bytes.now c.deed_size-size.ensures) c.if-left-eq0.false c.if-left-gt1.false
+    (omega (arith, c.deed_size-size.ensures, c.if-left-size.true))
 
 pub returns : goal.returns
 returns c =
-    rest_cut c.args.width.columns (take (length c.args.bytes.now - c.args.answered * c.deed-size-size.result) (drop (c.args.answered * c.deed-size-size.result) c.args.bytes.now)) _ (left_is c.args.width.columns c.deed-size-size.result c.args.answered c.args.bytes.now c.deed-size-size.ensures) _ refl c.if-left-eq0.false c.if-left-gt1.false
-    (omega (arith, c.deed-size-size.ensures, c.if-left-size.false))
+    rest_cut c.args.width.columns (take (length c.args.bytes.now - c.args.answered * c.deed_size-size.result) (drop (c.args.answered * c.deed_size-size.result) c.args.bytes.now)) _ (left_is c.args.width.columns c.deed_size-size.result c.args.answered c.args.bytes.now c.deed_size-size.ensures) _ refl c.if-left-eq0.false c.if-left-gt1.false
+    (omega (arith, c.deed_size-size.ensures, c.if-left-size.false))

@@ -7,8 +7,8 @@ loop-c-init c = cells_start (length c.args.cells.now) c.args.bytes.now c.args.ce
 
 pub loop-c-preserved : goal.loop-c-preserved
 loop-c-preserved c =
-    cells_next (length c.args.cells.now) c.args.bytes.now c.loop-c.c c.loop-c.left.now _ c.loop-c.cells c.first-cell.result (omega arith) c.loop-c.auto.cells c.loop-c.invariant
-    c.first-cell.ensures refl
+    cells_next (length c.args.cells.now) c.args.bytes.now c.loop-c.c c.loop-c.left.now _ c.loop-c.cells c.first_cell.result (omega arith) c.loop-c.auto.cells c.loop-c.invariant
+    c.first_cell.ensures refl
 
 pub returns : goal.returns
 returns c =

@@ -5,6 +5,6 @@ use Rattle.register.proofs.day_bytes.write_deed.Goals as goal
 
 pub returns : goal.returns
 returns c =
-    deed_written c.args.width.columns _ _ c.args.deed.now c.args.bytes.now _ c.write-cells.new.cells (get_or c.args.bytes.now 0 0) c.requires.room refl c.write-cells.ensures
+    deed_written c.args.width.columns _ _ c.args.deed.now c.args.bytes.now _ c.write_cells.new.cells (get_or c.args.bytes.now 0 0) c.requires.room refl c.write_cells.ensures
     (simp (length-take, length-drop, length-set) (omega (arith, c.requires.room))) (take_rest c.args.bytes.now 1)
     (simp length-set (omega (arith, c.requires.room)))

@@ -10,9 +10,9 @@ returns c =
     record {
       told = search rules;
       says =
-          subst (λ (k : ℕ). DayKept k c.args.self.now.design.now c.args.self.now.cells.now c.keep-deeds.new.cells c.args.deeds.now c.args.answers.now c.keep-deeds.new.answers c.keep-deeds.result) n
-          (day_kept c.in-Ok.width.columns c.args.self.now.design.now c.args.self.now.cells.now c.fill.new.self c.keep-deeds.new.cells c.args.deeds.now c.args.answers.now c.keep-deeds.new.answers c.keep-deeds.result
-          (c.fill.ensures.after (λ y e. e)) c.keep-deeds.ensures);
+          subst (λ (k : ℕ). DayKept k c.args.self.now.design.now c.args.self.now.cells.now c.keep_deeds.new.cells c.args.deeds.now c.args.answers.now c.keep_deeds.new.answers c.keep_deeds.result) n
+          (day_kept c.in-Ok.width.columns c.args.self.now.design.now c.args.self.now.cells.now c.fill.new.self c.keep_deeds.new.cells c.args.deeds.now c.args.answers.now c.keep_deeds.new.answers c.keep_deeds.result
+          (c.fill.ensures.after (λ y e. e)) c.keep_deeds.ensures);
       width = search rules;
       plan = search rules;
     }
