@@ -23,14 +23,14 @@ returns-in-Err c =
     let l : c.loop-i.i < row_count n c.args.rows.cells.now = omega arith in
     record {
       says = record {
-        long = c.take-back.ensures.back.long ∙ h.long ∙ c.loop-i.invariant.2.long;
+        long = c.take_back.ensures.back.long ∙ h.long ∙ c.loop-i.invariant.2.long;
         tells = laid_refused n d c.args.rows.cells.now c.args.register.now.cells.now c.loop-i.i g c.row.result.now l c.loop-i.invariant.2 c.row.ensures c.requires.opened c.in-Err.refusal
             (at_plan (λ (k : ℕ) (z : List ℕ). told c.in-Err.refusal ≡ or_else (opened_told k z) (put_told k (room_of k z g) (design_in k z) (held_of k z g) c.row.result.now)) e f h.told);
-        after = laid_back n d c.args.rows.cells.now c.args.register.now.cells.now c.loop-i.i g c.take-back.new.register.cells.now c.requires.opened c.loop-i.invariant.2
-            (subst (λ (z : List ℕ). TakenBack n d c.args.rows.cells.now c.loop-i.i 0 z c.take-back.new.register.cells.now) h.after
-            (subst (λ (z : List ℕ). TakenBack n z c.args.rows.cells.now c.loop-i.i 0 c.insert.new.self.cells.now c.take-back.new.register.cells.now) (h.plan.1 ∙ f) c.take-back.ensures.back));
+        after = laid_back n d c.args.rows.cells.now c.args.register.now.cells.now c.loop-i.i g c.take_back.new.register.cells.now c.requires.opened c.loop-i.invariant.2
+            (subst (λ (z : List ℕ). TakenBack n d c.args.rows.cells.now c.loop-i.i 0 z c.take_back.new.register.cells.now) h.after
+            (subst (λ (z : List ℕ). TakenBack n z c.args.rows.cells.now c.loop-i.i 0 c.insert.new.self.cells.now c.take_back.new.register.cells.now) (h.plan.1 ∙ f) c.take_back.ensures.back));
       };
-      plan = (c.take-back.ensures.plan.0 ∙ h.plan.0 ∙ c.loop-i.invariant.0, c.take-back.ensures.plan.1 ∙ h.plan.1 ∙ c.loop-i.invariant.1);
+      plan = (c.take_back.ensures.plan.0 ∙ h.plan.0 ∙ c.loop-i.invariant.0, c.take_back.ensures.plan.1 ∙ h.plan.1 ∙ c.loop-i.invariant.1);
     }
 
 pub loop-i-preserved : goal.loop-i-preserved
@@ -40,7 +40,7 @@ loop-i-preserved c =
     let g : List ℕ = c.loop-i.register.cells.now in
     let e : c.loop-i.register.columns ≡ n = c.loop-i.invariant.0 ∙ c.requires.same in
     let f : c.loop-i.register.design.now ≡ d = c.loop-i.invariant.1 in
-    let h = c.in-default.ensures in
+    let h = c.in_default.ensures in
     let l : c.loop-i.i < row_count n c.args.rows.cells.now = omega arith in (
       h.plan.0 ∙ c.loop-i.invariant.0,
       h.plan.1 ∙ c.loop-i.invariant.1,

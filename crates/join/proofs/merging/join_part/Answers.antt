@@ -9,8 +9,8 @@ use Rattle.join.proofs.merging.join_part.Goals as goal
 
 pub loop-row-preserved : goal.loop-row-preserved
 loop-row-preserved c =
-    all_more (cols c.args.shared) (cols c.args.part.owned) (held_by c.args.part) c.args.rows.now (vec_items c.loop-row.next) (vec_items c.join-row.new.rows) c.loop-row.row-index
-    (omega arith) c.loop-row.invariant c.in-ok-join-row.ensures
+    all_more (cols c.args.shared) (cols c.args.part.owned) (held_by c.args.part) c.args.rows.now (vec_items c.loop-row.next) (vec_items c.join_row.new.rows) c.loop-row.row-index
+    (omega arith) c.loop-row.invariant c.in_ok-join_row.ensures
 
 pub returns : goal.returns
 returns c =

@@ -14,7 +14,7 @@ loop-c-preserved c = (
   simp length-set c.loop-c.invariant.0,
   below_more _ _
       (λ k h. let ne : k ≢ c.loop-c.c = omega arith in rw get_or-set_other (c.loop-c.invariant.1 k h))
-      (let lt : c.loop-c.c < length c.loop-c.joined = omega (arith, c.loop-c.invariant.0) in rw get_or-set_same c.merged-cell.ensures),
+      (let lt : c.loop-c.c < length c.loop-c.joined = omega (arith, c.loop-c.invariant.0) in rw get_or-set_same c.merged_cell.ensures),
 )
 
 pub returns : goal.returns

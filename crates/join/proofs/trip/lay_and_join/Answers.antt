@@ -17,7 +17,7 @@ returns-in-Err c =
 
 pub returns-in-Ok : goal.returns-in-Ok
 returns-in-Ok c =
-    let h = c.in-default.ensures in
+    let h = c.in_default.ensures in
     record {
       says = tripped c.args.register.now.columns c.args.register.now.design.now c.args.register.now.cells.now c.lay.new.register.cells.now c.args.table.now (vec_items c.in-Ok.rows) (sym h.told) h.after.1
           (at_plan (λ (k : ℕ) (z : List ℕ). Joined (design_in k z) (held_of k z c.lay.new.register.cells.now) (vec_items c.in-Ok.rows)) h.plan.0 h.plan.1 c.in-Ok.ensures.1);
