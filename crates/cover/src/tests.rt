@@ -31,30 +31,35 @@ fn organs(rt: HostRuntime) -> Result<(), Fail> {
 
 #[test]
 fn nothing_to_say(rt: HostRuntime) -> Result<(), Fail> {
-    gives(&rt, &[3, 0], &[0]).note("no rules")?;
-    gives(&rt, &[2, 1, 1, 0], &[0]).note("an empty right side")?;
-    gives(&rt, &[2, 1, 3, 1], &[0]).note("a column fixes itself")
+    // No rules.
+    gives(&rt, &[3, 0], &[0])?;
+    // An empty right side.
+    gives(&rt, &[2, 1, 1, 0], &[0])?;
+    // A column fixes itself.
+    gives(&rt, &[2, 1, 3, 1], &[0])
 }
 
 #[test]
 fn empty_left_sides(rt: HostRuntime) -> Result<(), Fail> {
     gives(&rt, &[2, 1, 0, 3], &[2, 0, 1, 0, 2])?;
-    gives(&rt, &[2, 2, 0, 1, 1, 2], &[2, 0, 1, 0, 2]).note("0 is fixed, so 1 is too")
+    // 0 is fixed, so 1 is too.
+    gives(&rt, &[2, 2, 0, 1, 1, 2], &[2, 0, 1, 0, 2])
 }
 
 #[test]
 fn redundant_rules(rt: HostRuntime) -> Result<(), Fail> {
-    gives(&rt, &[2, 2, 1, 2, 1, 2], &[1, 1, 2]).note("the same rule twice")?;
-    gives(&rt, &[3, 3, 1, 2, 2, 4, 1, 4], &[2, 1, 2, 2, 4]).note("0 fixes 2 by way of 1")
+    // The same rule twice.
+    gives(&rt, &[2, 2, 1, 2, 1, 2], &[1, 1, 2])?;
+    // 0 fixes 2 by way of 1.
+    gives(&rt, &[3, 3, 1, 2, 2, 4, 1, 4], &[2, 1, 2, 2, 4])
 }
 
 // 0 and 1 fix 2 and 3, and 0 alone fixes 2: for 2 the column 1 is left out, for 3 it is not.
 #[test]
 fn each_right_column_by_itself(rt: HostRuntime) -> Result<(), Fail> {
     gives(&rt, &[4, 2, 3, 12, 1, 4], &[2, 3, 8, 1, 4])?;
-    gives(&rt, &[4, 2, 7, 8, 1, 2], &[2, 5, 8, 1, 2]).note(
-        "of 0 1 2 the middle one is not needed for 3, since 0 fixes it",
-    )
+    // Of 0 1 2 the middle one is not needed for 3, since 0 fixes it.
+    gives(&rt, &[4, 2, 7, 8, 1, 2], &[2, 5, 8, 1, 2])
 }
 
 #[test]

@@ -34,13 +34,16 @@ fn organs(rt: HostRuntime) -> Result<(), Fail> {
 #[test]
 fn no_rules(rt: HostRuntime) -> Result<(), Fail> {
     gives(&rt, &[3, 0], 1, &[1, 7, 0])?;
-    gives(&rt, &[16, 0], 1, &[1, 0xffff, 0]).note("16 columns")
+    // 16 columns.
+    gives(&rt, &[16, 0], 1, &[1, 0xffff, 0])
 }
 
 #[test]
 fn empty_left_sides(rt: HostRuntime) -> Result<(), Fail> {
-    gives(&rt, &[3, 1, 0, 7], 1, &[1, 7, 3, 0, 1, 0, 2, 0, 4]).note("all columns")?;
-    gives(&rt, &[3, 1, 0, 2], 2, &[2, 2, 1, 0, 2, 5, 0]).note("the others are a key, and come last")
+    // All columns.
+    gives(&rt, &[3, 1, 0, 7], 1, &[1, 7, 3, 0, 1, 0, 2, 0, 4])?;
+    // The others are a key, and come last.
+    gives(&rt, &[3, 1, 0, 2], 2, &[2, 2, 1, 0, 2, 5, 0])
 }
 
 // The rules of 0 make the first part, though one of them comes last.
