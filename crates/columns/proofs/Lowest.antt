@@ -1,10 +1,9 @@
 -- The lowest column of a set, and the set without it, read off the set's number.
-use Rattle.std.proofs.Common.{◌≡◌, ℕ, zero, suc, ◌+◌, ◌-◌, ◌/◌, ◌%◌, ◌^◌, ◌<◌, ◌⊎◌, [], ◌∷◌, sym, refl, ap, ◌∙◌, inl, inr, arith}
+use Rattle.std.proofs.Common.{◌≡◌, ℕ, zero, suc, ◌+◌, ◌-◌, ◌/◌, ◌%◌, ◌^◌, ◌<◌, ◌∷◌, ap, ◌∙◌, inl, inr, arith}
 use native.Mathlib.Nat.{two-pow-succ}
 use lib.Bits.{bit_and, and_mod, and_shr, and_self}
 use lib.Count.{count_trailing_zeros}
-use Rattle.std.proofs.lemmas.Nat.{mod_below}
-use Rattle.columns.specs.Cols.{Cols, set_in}
+use Rattle.columns.specs.Cols.{set_in}
 use Rattle.columns.proofs.Compared.{odd_or_even}
 
 -- the digit 1 goes when 1 is taken away, and those above it stay; above a digit 0 the same happens

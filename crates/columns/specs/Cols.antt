@@ -1,5 +1,5 @@
 -- Sets of columns as lists of column numbers, and as numbers in which 2 ^ c stands for column c.
-use Rattle.std.specs.Prelude.{◌≡◌, ℕ, zero, suc, ◌/◌, ◌%◌, ◌^◌, ◌<◌, Bool, true, false, ◌&&◌, List, [], ◌∷◌, ◌==◌}
+use Rattle.std.specs.Prelude.{◌≡◌, ℕ, zero, suc, ◌/◌, ◌%◌, ◌<◌, Bool, true, false, ◌&&◌, List, [], ◌∷◌, ◌==◌}
 
 abbrev pub pick : {A : Type 0} → Bool → A → A → A
 pick true a b = a

@@ -1,6 +1,6 @@
 -- What is shown of sets of columns. Each is a statement, a type whose proof is owed.
-use Rattle.std.specs.Prelude.{◌≡◌, ℕ, ◌^◌, ◌<◌, true, false, ◌⊎◌, [], ◌∷◌}
-use Rattle.columns.specs.Cols.{Cols, Same, Rising, set_in}
+use Rattle.std.specs.Prelude.{◌≡◌, true, false, ◌⊎◌}
+use Rattle.columns.specs.Cols.{Same, Rising, set_in}
 use Rattle.columns.specs.Order.{before}
 use Rattle.columns.specs.Sets.{cols}
 use Rattle.columns.specs.declared.set.ColumnSet.{ColumnSet}

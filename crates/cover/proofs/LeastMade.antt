@@ -1,5 +1,5 @@
 -- Fine rules that say the same as given ones, of which none follows from the others, are a least set of them.
-use Rattle.std.proofs.Common.{◌≡◌, ℕ, ◌<◌, ◌≤◌, true, List, [], ◌∷◌, ◌++◌, length, get_or, sym, refl, ap, subst, inl, inr}
+use Rattle.std.proofs.Common.{◌≡◌, ℕ, ◌<◌, ◌≤◌, true, List, ◌∷◌, ◌++◌, length, get_or, sym, refl, ap, subst, inl, inr}
 use Rattle.std.proofs.lemmas.List.{append-nil}
 use Rattle.columns.specs.Cols.{has, all_in, Rising}
 use Rattle.columns.specs.Members.{In, Sub}

@@ -1,5 +1,5 @@
 -- Least sets of rules.
-use Rattle.std.specs.Prelude.{◌≡◌, ℕ, ◌+◌, ◌<◌, Bool, not, ◌&&◌, List, [], ◌∷◌, ◌++◌, length, get_or, nat_eq, slice_index_or}
+use Rattle.std.specs.Prelude.{◌≡◌, ℕ, ◌<◌, Bool, not, ◌&&◌, List, [], ◌∷◌, ◌++◌, length, get_or, nat_eq, slice_index_or}
 use Rattle.columns.specs.Cols.{Cols}
 use Rattle.dependencies.specs.Tables.{Dep, Implied, no_dep}
 use Rattle.columns.specs.Every.{every, every_split}

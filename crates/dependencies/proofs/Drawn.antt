@@ -1,5 +1,5 @@
 -- A drawn row has the cells that it was drawn from. Assumes nothing.
-use Rattle.std.proofs.Common.{◌≡◌, ℕ, zero, suc, ◌+◌, ◌<◌, ◌≤◌, List, [], ◌∷◌, length, get_or, take, sym, refl, ap, ◌∙◌, arith}
+use Rattle.std.proofs.Common.{◌≡◌, ℕ, zero, suc, ◌+◌, ◌<◌, ◌≤◌, List, [], ◌∷◌, length, get_or, take, refl, ap, ◌∙◌, arith}
 use Rattle.dependencies.specs.Tables.{draw}
 
 drawn_from : (f : ℕ → ℕ) (a k i : ℕ) → i < k → get_or (draw f a k) i 0 ≡ f (a + i)

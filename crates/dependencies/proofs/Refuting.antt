@@ -1,10 +1,10 @@
 -- A rule that does not follow, and the two rows against it.
-use Rattle.std.proofs.Common.{◌≡◌, ℕ, ◌<◌, Bool, true, false, List, [], ◌∷◌, get_or, sym, refl, ap, ◌∙◌, subst, inl, inr, arith}
+use Rattle.std.proofs.Common.{◌≡◌, ℕ, ◌<◌, true, false, List, [], ◌∷◌, get_or, sym, refl, ap, ◌∙◌, subst, inl, inr, arith}
 use Rattle.std.proofs.lemmas.Bool.{true≢false}
 use Rattle.columns.specs.Cols.{Cols, pick, has, all_in, Same}
 use Rattle.columns.specs.Members.{In, Sub}
 use Rattle.columns.proofs.Columns.{has_in, in_has, in_or_not, not_in_has, not_all_in, all_in_sub, sub_all_in}
-use Rattle.dependencies.specs.Tables.{Row, Dep, agree, Obeys, ObeysAll, Implied, Proper, fixing, zero_row, differ_row, pair_on}
+use Rattle.dependencies.specs.Tables.{Dep, Obeys, ObeysAll, Implied, Proper, fixing, zero_row, differ_row, pair_on}
 use Rattle.dependencies.specs.Closure.{closure, Closes}
 use Rattle.dependencies.specs.Meaning.{Refuted}
 use Rattle.dependencies.proofs.Rows.{Same as EqualIn, same_agree, agree_same}

@@ -1,5 +1,5 @@
 -- Answers in lent rows.
-use Rattle.std.specs.Prelude.{ℕ, suc, List, [], ◌∷◌, length, set, nat_le, slice_set}
+use Rattle.std.specs.Prelude.{ℕ, suc, List, [], ◌∷◌, length, nat_le, slice_set}
 use Rattle.columns.specs.Cols.{pick}
 use Rattle.dependencies.specs.Layout.{reading}
 use Rattle.dependencies.specs.Told.{Told, done, refused, or_else}

@@ -1,5 +1,5 @@
 -- Sets in order: two lists in order, all of the first before all of the second, are one.
-use Rattle.std.proofs.Common.{◌≡◌, ℕ, ◌+◌, ◌<◌, ◌≤◌, true, List, [], ◌∷◌, ◌++◌, sym, refl, ◌∙◌, inl, inr, arith}
+use Rattle.std.proofs.Common.{◌≡◌, ℕ, ◌<◌, ◌≤◌, true, List, [], ◌∷◌, ◌++◌, sym, refl, ◌∙◌, inl, inr, arith}
 use Rattle.std.proofs.lemmas.Bool.{cases_eq, cases_lt}
 use Rattle.columns.specs.Cols.{Cols, Rising}
 use Rattle.columns.specs.Order.{before, IsInOrder, no_set, one_set, and_set}

@@ -1,5 +1,5 @@
 -- What each way out of the walk has written.
-use Rattle.std.proofs.Common.{◌≡◌, ℕ, ◌+◌, ◌<◌, false, List, [], ◌∷◌, ◌++◌, Some, None, Option, sym, subst, arith}
+use Rattle.std.proofs.Common.{◌≡◌, ℕ, ◌<◌, false, List, [], ◌∷◌, ◌++◌, Some, None, Option, sym, subst, arith}
 use Rattle.columns.specs.Cols.{Cols, set_in}
 use Rattle.columns.specs.Members.{In}
 use Rattle.columns.specs.Sets.{cols}

@@ -1,5 +1,5 @@
 -- One part counts a row once more or once less: what its cells hold then, and that behind what it holds every cell stays 0.
-use Rattle.std.proofs.Common.{◌≡◌, ℕ, suc, ◌+◌, ◌-◌, ◌*◌, ◌<◌, ◌≤◌, true, ◌≢◌, List, [], ◌∷◌, ◌++◌, length, get_or, take, drop, set, replicate, sym, refl, ap, ◌∙◌, subst, inl, inr, arith}
+use Rattle.std.proofs.Common.{◌≡◌, ℕ, suc, ◌+◌, ◌-◌, ◌*◌, ◌<◌, ◌≤◌, true, ◌≢◌, List, ◌∷◌, ◌++◌, length, get_or, take, drop, set, replicate, sym, refl, ap, ◌∙◌, subst, inl, inr, arith}
 use Rattle.std.proofs.lemmas.Bool.{ltb-true, cases_lt, cases_eq}
 use Rattle.std.proofs.lemmas.List.{take_rest, length-take-le, take_at, drop_at, length-append, length-drop, length-replicate, get_or_append_left, get_or-append_right, get_or-replicate, get_or_past, get_or-drop, get_or-set_other}
 use Rattle.columns.specs.Cols.{Cols}

@@ -1,5 +1,5 @@
 -- Every part's share of the cells is written, one after the other.
-use Rattle.std.proofs.Common.{◌≡◌, ℕ, zero, suc, ◌+◌, ◌-◌, ◌*◌, ◌/◌, ◌<◌, ◌≤◌, Bool, true, false, ◌&&◌, List, [], ◌∷◌, ◌++◌, length, get_or, take, drop, Some, None, Option, sym, refl, ap, ◌∙◌, subst, ap₂, arith, below_more}
+use Rattle.std.proofs.Common.{◌≡◌, ℕ, zero, suc, ◌+◌, ◌-◌, ◌*◌, ◌/◌, ◌<◌, ◌≤◌, Bool, true, false, List, [], ◌∷◌, length, get_or, take, drop, Some, None, sym, refl, ap, ◌∙◌, subst, ap₂, arith, below_more}
 use borrow.Rule.Slice.PartMut.{put_mid}
 use Rattle.std.specs.List.{between}
 use Rattle.std.proofs.lemmas.Slice.{between_is, take-put_mid_below, between-put_mid, drop-put_mid}
@@ -10,7 +10,7 @@ use Rattle.dependencies.specs.Tables.{Row}
 use Rattle.schema.specs.Design.{Part, no_part}
 use Rattle.schema.specs.Layout.{parts_in, design_in}
 use Rattle.parts.specs.Day.{Held, holds, one_more, one_less, all_hold, all_more, all_less}
-use Rattle.parts.specs.Store.{held_in, all_held, whole_part, formed, readable, room_of, held_of, Clean, CleanCells}
+use Rattle.parts.specs.Store.{held_in, all_held, whole_part, formed, readable, room_of, held_of, Clean}
 use Rattle.parts.specs.Answers.{full, first_full_part, NowHolds}
 use Rattle.parts.proofs.Formed.{formed_more, readable_says}
 use Rattle.parts.proofs.Spaces.{next_row, suc_row, row_fits}

@@ -7,8 +7,7 @@ use Rattle.dependencies.specs.Told.{Told, done, refused, told, or_else}
 use Rattle.dependencies.specs.Layout.{reading, columns_of}
 use Rattle.dependencies.specs.declared.refusals.Refusal.{Refusal}
 use Rattle.schema.specs.Design.{Part}
-use Rattle.schema.specs.Layout.{design_in}
-use Rattle.parts.specs.Day.{Held, holds, looks_of, rule_with, all_hold, all_more, all_less}
+use Rattle.parts.specs.Day.{Held, holds, looks_of, rule_with, all_hold}
 use Rattle.parts.specs.Store.{no_held, place_in, readable, room_of, held_of, CleanCells}
 
 -- what an answer tells

@@ -1,5 +1,5 @@
 -- A day of whole rows that come and go: on the one table with all rules, and on the parts with their own.
-use Rattle.std.specs.Prelude.{◌≡◌, ℕ, zero, suc, ◌+◌, ◌-◌, ◌<◌, ◌≤◌, Bool, true, false, not, ◌&&◌, List, [], ◌∷◌, ◌++◌, length, ◌==◌}
+use Rattle.std.specs.Prelude.{ℕ, suc, ◌+◌, ◌-◌, Bool, true, false, not, ◌&&◌, List, [], ◌∷◌, ◌++◌, ◌==◌}
 use Rattle.dependencies.specs.Tables.{Row, Dep, agree}
 use Rattle.columns.specs.Cols.{Cols, has, columns, pick}
 use Rattle.schema.specs.Design.{Part}

@@ -1,12 +1,12 @@
 -- How many rows of a table agree with a row in some columns, and how this changes as a row comes or goes.
-use Rattle.std.proofs.Common.{◌≡◌, ℕ, zero, suc, ◌+◌, ◌<◌, Bool, true, false, ltb, List, [], ◌∷◌, ◌++◌, length, sym, refl, ap, ◌∙◌, inl, inr, zero-add, arith}
+use Rattle.std.proofs.Common.{◌≡◌, ℕ, ◌+◌, Bool, true, false, ltb, List, [], ◌∷◌, ◌++◌, length, sym, refl, ap, ◌∙◌, inl, inr, zero-add, arith}
 use Rattle.columns.proofs.Members.{pick_both}
 use Rattle.std.proofs.lemmas.Bool.{false≢true, lt-ltb}
 use Rattle.dependencies.specs.Tables.{Row, agree}
 use Rattle.columns.specs.Cols.{Cols, all_in, pick}
 use Rattle.parts.specs.Day.{present, without}
 use Rattle.columns.specs.Members.{In, Sub}
-use Rattle.parts.proofs.Agree.{agree_refl, agree_sym, agree_like, agree_inside}
+use Rattle.parts.proofs.Agree.{agree_like, agree_inside}
 
 abbrev pub one : Bool → ℕ
 one true = 1

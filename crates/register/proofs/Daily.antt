@@ -1,5 +1,5 @@
 -- A day of deeds on lent memory, deed by deed.
-use Rattle.std.proofs.Common.{◌≡◌, ℕ, zero, suc, ◌+◌, ◌-◌, ◌*◌, ◌/◌, ◌<◌, ◌≤◌, Bool, true, false, not, ◌&&◌, eqb, ltb, List, [], ◌∷◌, ◌++◌, length, get_or, take, drop, set, Ok, Err, Result, sym, refl, ap, ◌∙◌, subst, ap₂, append_assoc, arith}
+use Rattle.std.proofs.Common.{◌≡◌, ℕ, zero, suc, ◌+◌, ◌-◌, ◌*◌, ◌/◌, ◌<◌, ◌≤◌, Bool, false, eqb, List, [], ◌∷◌, ◌++◌, length, get_or, take, drop, set, Ok, Err, Result, sym, refl, ap, ◌∙◌, subst, ap₂, append_assoc, arith}
 use borrow.Rule.Slice.PartMut.{put_mid}
 use Rattle.std.proofs.lemmas.Nat.{div-add-mod', mul-le}
 use Rattle.std.proofs.lemmas.List.{take-take, take_rest, length-drop, drop-drop, take-append-drop, append-nil}
@@ -7,14 +7,14 @@ use Rattle.std.proofs.lemmas.Slice.{take-put_mid, drop-put_mid}
 use Rattle.std.proofs.lemmas.Bool.{eq-eqb, ne_eqb, lt-ltb, le-ltb}
 use Rattle.columns.specs.Cols.{pick}
 use Rattle.dependencies.specs.Tables.{Row}
-use Rattle.dependencies.specs.Told.{Told, done, refused, told, number, place}
+use Rattle.dependencies.specs.Told.{Told, told, number, place}
 use Rattle.dependencies.specs.declared.refusals.Refusal.{Refusal}
 use Rattle.dependencies.specs.declared.refusals.Refusal.TheVariants.{Columns, RuleCount, Set, ShortRow, KeyRoom, NotADesign, Cells, Present, Broken, Absent, PartFull}
 use Rattle.schema.specs.Design.{Part}
 use Rattle.schema.specs.Layout.{design_in}
 use Rattle.parts.specs.Day.{Deed, insert, remove, Held}
 use Rattle.parts.specs.Store.{room_of, held_of, CleanCells}
-use Rattle.parts.specs.Answers.{outcome, After, NowHolds}
+use Rattle.parts.specs.Answers.{outcome, After}
 use Rattle.register.specs.Deeds.{deed_in, deeds_in, most_deeds, day_of, deed_told, deed_held, is_done, deed_after, day_told, day_end, answers_of, DeedsKept}
 use Rattle.parts.proofs.Spaces.{suc_row}
 

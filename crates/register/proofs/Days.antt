@@ -1,10 +1,10 @@
 -- The parts go beside the one table through a day.
-use Rattle.std.proofs.Common.{◌≡◌, ℕ, Bool, true, false, not, ◌&&◌, List, [], ◌∷◌, ◌++◌, length, sym, refl, ap, ◌∙◌, subst, ap₂}
+use Rattle.std.proofs.Common.{◌≡◌, ℕ, Bool, true, false, not, ◌&&◌, List, [], ◌∷◌, ◌++◌, sym, refl, subst, ap₂}
 use Rattle.std.proofs.lemmas.Bool.{and_parts}
 use Rattle.dependencies.specs.Tables.{Row, Dep, ObeysAll}
 use Rattle.columns.specs.Cols.{columns, pick}
 use Rattle.schema.specs.Design.{Part, Design}
-use Rattle.parts.specs.Day.{Deed, insert, remove, Held, present, without, rules_with, whole_takes, whole_after, whole_day, whole_end, all_hold, all_more, all_less, parts_take, parts_after, parts_day, parts_end, bare}
+use Rattle.parts.specs.Day.{Deed, insert, remove, Held, present, without, rules_with, whole_takes, whole_after, whole_day, whole_end, all_more, all_less, parts_take, parts_after, parts_day, parts_end, bare}
 use Rattle.register.specs.Theorems.{PartsAsWhole}
 use Rattle.register.proofs.Counts.{without_in}
 use Rattle.register.proofs.Obeying.{obeys_come, obeys_none}

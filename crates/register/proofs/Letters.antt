@@ -3,7 +3,7 @@ use Rattle.std.proofs.Common.{◌≡◌, ℕ, zero, suc, ◌+◌, ◌-◌, ◌*�
 use Rattle.std.proofs.lemmas.List.{take-append-drop, drop_more, drop-drop, take-take, drop-take, get_or-drop, get_or-take, get_or-replicate, length-take-le, length-drop, length-replicate, nil_from_length, ext_get_or}
 use Rattle.std.proofs.lemmas.Bool.{cases_Bool, eqb-true, eqb-false}
 use Rattle.parts.specs.Day.{Held}
-use Rattle.parts.specs.Store.{held_row, held_in, all_held, room_of, held_of, Clean, AllClean, CleanCells, rows_written, cells_written}
+use Rattle.parts.specs.Store.{held_row, held_in, all_held, room_of, Clean, AllClean, rows_written, cells_written}
 use Rattle.register.specs.Theorems.{ToTheLetter}
 use Rattle.parts.proofs.Decoded.{held_stop, held_more}
 use Rattle.parts.proofs.Spaces.{suc_row}

@@ -1,13 +1,12 @@
 -- A table obeys rules: row by row, and as a row comes or goes.
-use Rattle.std.proofs.Common.{◌≡◌, ℕ, zero, suc, ◌<◌, Bool, true, false, ◌&&◌, List, [], ◌∷◌, ◌++◌, length, get_or, sym, refl, ap, ◌∙◌, subst, inl, inr}
-use Rattle.std.proofs.lemmas.Bool.{false≢true, and_parts, and_from}
-use Rattle.dependencies.specs.Tables.{Row, Dep, agree, Obeys, ObeysAll, no_dep}
+use Rattle.std.proofs.Common.{◌≡◌, Bool, true, false, List, [], ◌∷◌, ◌++◌, sym, refl, ap, ◌∙◌, subst, inl, inr}
+use Rattle.std.proofs.lemmas.Bool.{and_parts, and_from}
+use Rattle.dependencies.specs.Tables.{Row, Dep, agree, ObeysAll}
 use Rattle.columns.specs.Cols.{Cols, all_in, pick}
 use Rattle.parts.specs.Day.{present, rule_with, rules_with}
 use Rattle.columns.specs.Members.{In}
 use Rattle.columns.proofs.Members.{in_left, in_right, in_either}
 use Rattle.dependencies.proofs.Tables.{PairObeys, obeys_pair, pair_obeys, obeys_each, each_obeys}
-use Rattle.columns.proofs.Lists.{same_test}
 use Rattle.parts.proofs.Agree.{agree_refl, agree_sym, agree_trans, agree_inside}
 use Rattle.register.proofs.Counts.{present_in, in_present}
 

@@ -1,11 +1,11 @@
 -- All parts beside one table: what they hold, what they allow, and how both go on.
-use Rattle.std.proofs.Common.{◌≡◌, ℕ, zero, suc, ◌<◌, Bool, true, false, not, ◌&&◌, List, [], ◌∷◌, ◌++◌, length, get_or, sym, refl, ap, ◌∙◌, subst, ap₂, inl, inr}
+use Rattle.std.proofs.Common.{◌≡◌, ℕ, ◌<◌, true, ◌&&◌, List, [], ◌∷◌, ◌++◌, length, get_or, sym, refl, ap, ◌∙◌, subst, ap₂, inl, inr}
 use mathlib.Core.Bool.{and_assoc}
-use Rattle.std.proofs.lemmas.Bool.{false≢true, and_parts, and_from}
-use Rattle.dependencies.specs.Tables.{Row, Dep, agree, ObeysAll, no_dep}
-use Rattle.columns.specs.Cols.{Cols, all_in, columns, pick}
+use Rattle.std.proofs.lemmas.Bool.{and_parts, and_from}
+use Rattle.dependencies.specs.Tables.{Row, Dep, ObeysAll, no_dep}
+use Rattle.columns.specs.Cols.{Cols, all_in, columns}
 use Rattle.schema.specs.Design.{Part, no_part, all_rules, Design, LosesNothing}
-use Rattle.parts.specs.Day.{Held, holds, looks_of, one_more, one_less, present, without, rule_with, rules_with, all_hold, all_allow, all_more, all_less, bare}
+use Rattle.parts.specs.Day.{Held, holds, looks_of, present, without, rule_with, rules_with, all_hold, all_allow, all_more, all_less, bare}
 use Rattle.columns.specs.Members.{In}
 use Rattle.columns.proofs.Members.{in_at, at_in}
 use Rattle.columns.proofs.Lists.{same_test}

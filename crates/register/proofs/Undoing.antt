@@ -1,20 +1,20 @@
 -- A day of deeds that were taken, undone backwards, leaves the table and the parts as they were.
-use Rattle.std.proofs.Common.{◌≡◌, ℕ, zero, suc, ◌+◌, ◌<◌, ◌≤◌, Bool, true, false, not, ◌&&◌, ltb, List, [], ◌∷◌, ◌++◌, length, get_or, sym, refl, ap, ◌∙◌, subst, ap₂, append_assoc, suc-le-suc, le_of_suc-le-suc, not-suc-le-zero, arith}
-use Rattle.std.proofs.lemmas.Bool.{false≢true, ltb-true, ltb-false, lt-ltb, and_parts, and_from, not-true, not_from_false}
+use Rattle.std.proofs.Common.{◌≡◌, ℕ, zero, suc, ◌+◌, ◌<◌, ◌≤◌, Bool, true, false, not, List, [], ◌∷◌, ◌++◌, length, get_or, sym, refl, ◌∙◌, subst, ap₂, append_assoc, suc-le-suc, le_of_suc-le-suc, not-suc-le-zero, arith}
+use Rattle.std.proofs.lemmas.Bool.{ltb-true, ltb-false, lt-ltb, and_parts, and_from, not-true, not_from_false}
 use Rattle.dependencies.specs.Tables.{Row, Dep, agree, ObeysAll, no_dep, Proper}
-use Rattle.columns.specs.Cols.{Cols, all_in, columns, pick}
-use Rattle.schema.specs.Design.{Part, Design}
-use Rattle.parts.specs.Day.{Deed, insert, remove, Held, present, without, rules_with, whole_takes, whole_after, whole_day, whole_end, parts_day, parts_end, bare}
+use Rattle.columns.specs.Cols.{Cols, all_in, columns}
+use Rattle.schema.specs.Design.{Part}
+use Rattle.parts.specs.Day.{Deed, insert, remove, Held, present, without, rules_with, whole_takes, whole_after, whole_day, whole_end, parts_end, bare}
 use Rattle.register.specs.Theorems.{backwards, AllTaken, NeverMore, Undone}
 use Rattle.columns.specs.Members.{In}
 use Rattle.columns.proofs.Members.{at_in}
 use Rattle.parts.proofs.Agree.{agree_refl, agree_sym, agree_trans, agree_inside, like_agree, all_in_refl}
-use Rattle.register.proofs.Counts.{one, count, present_count, present_in, in_present, count_come, count_go, without_in}
-use Rattle.register.proofs.Keeping.{Kept, kept_length}
-use Rattle.register.proofs.Obeying.{rule_with_at, rule_with_from, rules_with_at, rules_with_from, rule_with_like, obeys_at, obeys_come, obeys_none}
+use Rattle.register.proofs.Counts.{one, count, present_count, present_in, count_come, count_go, without_in}
+use Rattle.register.proofs.Keeping.{kept_length}
+use Rattle.register.proofs.Obeying.{rule_with_from, rules_with_from, rule_with_like, obeys_at, obeys_come, obeys_none}
 use Rattle.dependencies.proofs.Tables.{fewer_rows}
 use Rattle.register.proofs.Together.{AllKept}
-use Rattle.register.proofs.Days.{Beside, taken_rules, taken_there, day_same, end_beside, start_beside}
+use Rattle.register.proofs.Days.{taken_rules, taken_there, day_same, end_beside, start_beside}
 
 -- the same rows, in any order
 abbrev pub SameRows : Cols → List Row → List Row → Type 0

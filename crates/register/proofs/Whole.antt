@@ -1,18 +1,18 @@
 -- A day on the lent register goes as the day on the parts, and so as the day on the one table.
-use Rattle.std.proofs.Common.{◌≡◌, ℕ, zero, suc, ◌+◌, ◌-◌, ◌*◌, ◌/◌, ◌<◌, ◌≤◌, Bool, true, false, not, ◌&&◌, eqb, ltb, List, [], ◌∷◌, ◌++◌, length, get_or, take, drop, replicate, Some, None, Option, sym, refl, ap, ◌∙◌, subst, ap₂, inl, inr, arith}
-use Rattle.std.proofs.lemmas.List.{get_or-drop, get_or-take, get_or_past, length-take, length-take-le, length-drop, length-replicate, drop-drop}
-use Rattle.std.proofs.lemmas.Bool.{and_parts, eq-eqb, false≢true, cases_lt, cases_Bool, ltb-false}
-use Rattle.columns.specs.Cols.{pick, columns}
+use Rattle.std.proofs.Common.{◌≡◌, ℕ, zero, suc, ◌+◌, ◌-◌, ◌*◌, ◌/◌, ◌≤◌, Bool, true, false, not, ◌&&◌, eqb, ltb, List, [], ◌∷◌, ◌++◌, length, get_or, take, drop, replicate, Some, None, Option, sym, refl, ap, ◌∙◌, subst, ap₂, inl, inr, arith}
+use Rattle.std.proofs.lemmas.List.{get_or-drop, get_or-take, get_or_past, length-take, length-take-le, length-drop, length-replicate}
+use Rattle.std.proofs.lemmas.Bool.{and_parts, eq-eqb, false≢true, cases_lt, ltb-false}
+use Rattle.columns.specs.Cols.{pick}
 use Rattle.columns.proofs.Members.{pick_both}
 use Rattle.dependencies.specs.Tables.{Row, Dep}
 use Rattle.dependencies.specs.Told.{Told, done, refused, number}
-use Rattle.schema.specs.Design.{Part, Design}
+use Rattle.schema.specs.Design.{Part}
 use Rattle.schema.specs.Layout.{parts_in, design_in}
-use Rattle.parts.specs.Day.{Deed, insert, remove, Held, looks_of, rule_with, rules_with, all_hold, all_allow, all_more, all_less, bare, parts_take, parts_after, parts_day, parts_end, whole_day, whole_end, present}
+use Rattle.parts.specs.Day.{Deed, insert, remove, Held, looks_of, rule_with, rules_with, all_hold, all_allow, all_more, all_less, bare, parts_take, parts_after, parts_day, parts_end}
 use Rattle.register.specs.Theorems.{PartsAsWhole}
-use Rattle.parts.specs.Store.{held_in, all_held, room_of, held_of, CleanCells}
+use Rattle.parts.specs.Store.{all_held, room_of, held_of}
 use Rattle.parts.specs.Answers.{broken_in, first_of, first_broken, first_full_part, or_broken, or_full, put_told, take_told}
-use Rattle.register.specs.Deeds.{deed_in, deeds_in, most_deeds, day_of, deed_told, deed_held, is_done, deed_after, day_told, day_end, answers_of, taken_of, never_full, AsWhole, DeedsKept, DayKept}
+use Rattle.register.specs.Deeds.{deed_in, deeds_in, most_deeds, day_of, deed_told, is_done, deed_after, day_told, day_end, answers_of, taken_of, never_full, AsWhole, DeedsKept, DayKept}
 use Rattle.register.proofs.Days.{parts_as_whole_stands}
 use Rattle.parts.proofs.Decoded.{held_stop}
 use Rattle.parts.proofs.Counted.{zeros}

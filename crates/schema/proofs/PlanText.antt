@@ -1,18 +1,17 @@
 -- The parts of a plan written line by line.
-use Rattle.std.proofs.Common.{◌≡◌, ℕ, List, [], ◌∷◌, ◌++◌, sym, refl, ap, ◌∙◌, append_assoc, append-nil}
+use Rattle.std.proofs.Common.{◌≡◌, ℕ, List, [], ◌∷◌, ◌++◌, sym, ap, ◌∙◌, append_assoc, append-nil}
 use Rattle.std.specs.declared.fmt.Formatter.{Formatter}
 use Rattle.std.specs.Fmt.{IsPlainFormatter, HasWritten}
 use Rattle.std.proofs.Output.{has_written_append, has_written_of_eq, writes_in_calls_nil}
-use Rattle.columns.specs.Cols.{Cols}
 use Rattle.columns.specs.Sets.{cols}
 use Rattle.columns.specs.declared.set.ColumnSet.{ColumnSet}
 use Rattle.dependencies.specs.Tables.{Dep}
 use Rattle.dependencies.specs.Rules.{deps}
 use Rattle.dependencies.specs.declared.rules.Rule.{Rule}
 use Rattle.schema.specs.Design.{Part}
-use Rattle.schema.specs.Made.{lying, left_over, parts_of}
+use Rattle.schema.specs.Made.{left_over, parts_of}
 use Rattle.schema.specs.Sets.{sets_of}
-use Rattle.schema.specs.Writing.{own, over}
+use Rattle.schema.specs.Writing.{over}
 use Rattle.schema.specs.Shown.{text_of_part, part_of, design_text}
 use Rattle.schema.proofs.Decoding.{own_deps, over_deps}
 

@@ -1,5 +1,5 @@
 -- A design: the parts into which a table is laid, each with its own rules. Assumes nothing: these are definitions.
-use Rattle.std.specs.Prelude.{◌≡◌, ℕ, ◌+◌, ◌<◌, true, false, ◌⊎◌, List, [], ◌∷◌, ◌++◌, length, get_or, slice_index_or}
+use Rattle.std.specs.Prelude.{◌≡◌, ℕ, ◌<◌, true, false, ◌⊎◌, List, [], ◌∷◌, ◌++◌, length, get_or, slice_index_or}
 use Rattle.dependencies.specs.Tables.{Row, Dep, agree, ObeysAll, Implied, no_dep}
 use Rattle.columns.specs.Cols.{Cols, has, all_in, columns}
 use Rattle.keys.specs.Keys.{Key}

@@ -1,15 +1,14 @@
 -- From what is told of the parts to what is told of the numbers; and a design is always accepted. Assumes nothing.
-use Rattle.std.proofs.Common.{◌≡◌, ℕ, ◌<◌, ◌≤◌, true, List, length, Ok, Err, Result, sym, refl, ◌∙◌, subst, inl, inr, arith}
+use Rattle.std.proofs.Common.{◌≡◌, ℕ, ◌<◌, ◌≤◌, true, List, Ok, Err, Result, sym, refl, ◌∙◌, inl, inr, arith}
 use Rattle.dependencies.specs.Layout.{columns_of, rules_of_row, reading}
-use Rattle.dependencies.specs.Tables.{Dep}
 use Rattle.dependencies.specs.Told.{done, refused, told, condition_number}
 use Rattle.dependencies.specs.declared.refusals.Condition.{Condition as Which}
 use Rattle.dependencies.specs.declared.refusals.Condition.TheVariants.{Covers, NoneInside, Lossless, RulesKept, ThirdForm}
 use Rattle.dependencies.specs.declared.refusals.Refusal.{Refusal}
 use Rattle.dependencies.specs.declared.refusals.Refusal.TheVariants.{Columns, RuleCount, Set, ShortRow, KeyRoom, NotADesign, Cells, Present, Broken, Absent, PartFull}
-use Rattle.verdict.specs.Check.{Judged, Missed, Accepted, IsNoDesign, Short, Checked, parts_given}
-use Rattle.verdict.specs.Decided.{Condition, FirstMissed}
-use Rattle.schema.specs.Design.{Part, Design}
+use Rattle.verdict.specs.Check.{Judged, Missed, Accepted, Checked, parts_given}
+use Rattle.verdict.specs.Decided.{FirstMissed}
+use Rattle.schema.specs.Design.{Design}
 use Rattle.verdict.specs.Given.{is_readable}
 use Rattle.verdict.specs.declared.check.CheckFailure.{CheckFailure}
 use Rattle.verdict.specs.declared.check.CheckFailure.TheVariants.{Refused, ShortTableau}

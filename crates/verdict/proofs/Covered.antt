@@ -1,7 +1,7 @@
 -- Columns taken out of all as parts have them: what is missing in the end is in no part. Assumes nothing.
-use Rattle.std.proofs.Common.{◌≡◌, ℕ, zero, suc, ◌+◌, ◌*◌, ◌<◌, ◌≤◌, Bool, true, false, not, ◌&&◌, ◌⊎◌, List, [], ◌∷◌, length, get_or, drop, sym, refl, ap, ◌∙◌, subst, inl, inr, arith}
-use Rattle.std.proofs.lemmas.Bool.{true≢false, both_ways, cases_Bool, and_parts, not-true}
-use Rattle.columns.specs.Cols.{Cols, has, all_in, columns, set_in}
+use Rattle.std.proofs.Common.{◌≡◌, ℕ, zero, suc, ◌+◌, ◌*◌, ◌<◌, ◌≤◌, Bool, true, false, not, ◌&&◌, List, [], get_or, drop, sym, refl, ap, ◌∙◌, subst, inl, inr, arith}
+use Rattle.std.proofs.lemmas.Bool.{both_ways, cases_Bool, and_parts, not-true}
+use Rattle.columns.specs.Cols.{Cols, has, all_in, columns}
 use Rattle.columns.specs.Members.{In, Sub}
 use Rattle.columns.proofs.Columns.{has_in, in_has, not_in_has, not_all_in, all_in_sub, sub_all_in, below, below_in}
 use Rattle.columns.proofs.Members.{in_at, at_in}

@@ -1,10 +1,8 @@
 -- A lent design from its front: the first rule, the first part, and what is left behind them. Assumes nothing.
-use Rattle.std.proofs.Common.{◌≡◌, ℕ, zero, suc, ◌+◌, ◌-◌, ◌*◌, ◌^◌, ◌<◌, ◌≤◌, Bool, true, ◌&&◌, ltb, List, [], ◌∷◌, length, get_or, drop, sym, refl, ap, ◌∙◌, subst, arith, length-drop}
+use Rattle.std.proofs.Common.{◌≡◌, ℕ, zero, suc, ◌+◌, ◌-◌, ◌*◌, ◌^◌, ◌<◌, ◌≤◌, true, ◌&&◌, ltb, List, [], ◌∷◌, length, get_or, drop, refl, ap, subst, arith, length-drop}
 use Rattle.std.proofs.lemmas.Bool.{and_parts, ltb-true}
 use Rattle.columns.specs.Cols.{set_in}
-use Rattle.dependencies.specs.Tables.{Dep}
 use Rattle.dependencies.specs.Layout.{rules_in}
-use Rattle.schema.specs.Design.{Part}
 use Rattle.schema.specs.Layout.{parts_in, extent, all_sets_fit, parts_fit}
 
 second : (xs : List ℕ) → get_or (drop 1 xs) 0 0 ≡ get_or xs 1 0

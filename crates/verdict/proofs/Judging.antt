@@ -1,5 +1,5 @@
 -- The conditions tested one after the other: at each the first that is missed is known, and after the last that it is a design. Assumes nothing.
-use Rattle.std.proofs.Common.{◌≡◌, ℕ, ◌<◌, true, false, List, length, get_or, sym, refl, ◌∙◌, subst, arith}
+use Rattle.std.proofs.Common.{◌≡◌, ℕ, ◌<◌, true, false, List, length, get_or, sym, ◌∙◌, subst}
 use Rattle.std.proofs.lemmas.Bool.{true≢false}
 use Rattle.columns.specs.Members.{In}
 use Rattle.columns.proofs.Members.{in_at, at_in}

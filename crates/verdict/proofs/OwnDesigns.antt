@@ -1,5 +1,5 @@
 -- A design that is made is accepted, and nothing is told against it.
-use Rattle.std.proofs.Common.{◌≡◌, ℕ, ◌<◌, ◌≤◌, true, leb, List, length, get_or, drop, Ok, Err, Result, sym, refl, ◌∙◌, subst, arith}
+use Rattle.std.proofs.Common.{◌≡◌, ℕ, true, leb, List, length, get_or, drop, Ok, Err, Result, sym, refl, ◌∙◌, subst, arith}
 use Rattle.std.proofs.lemmas.Bool.{and_from, le-leb}
 use Rattle.dependencies.specs.Layout.{columns_of, reading}
 use Rattle.dependencies.specs.Lent.{row_told}
@@ -7,7 +7,7 @@ use Rattle.dependencies.specs.Told.{Told, done, refused, or_else}
 use Rattle.schema.specs.Designed.{Designed, DesignTold}
 use Rattle.schema.specs.Layout.{extent_of_design, parts_fit}
 use Rattle.schema.proofs.PartEnds.{length_parts_in}
-use Rattle.verdict.specs.Check.{Accepted, Checked, parts_given}
+use Rattle.verdict.specs.Check.{Checked, parts_given}
 use Rattle.verdict.specs.Given.{is_readable}
 use Rattle.verdict.specs.Own.{OwnAccepted, OwnTold}
 use Rattle.verdict.specs.declared.check.CheckFailure.{CheckFailure}

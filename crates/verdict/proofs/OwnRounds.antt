@@ -1,6 +1,6 @@
 -- Rounds over the rules of parts, rule by rule and part by part. Assumes nothing.
-use Rattle.std.proofs.Common.{◌≡◌, ℕ, List, [], ◌∷◌, ◌++◌, get_or, drop, sym, refl, ap, ◌∙◌, subst}
-use Rattle.columns.specs.Cols.{Cols, Same, pick, all_in}
+use Rattle.std.proofs.Common.{◌≡◌, List, [], ◌∷◌, ◌++◌, get_or, drop, sym, refl, ap, ◌∙◌, subst}
+use Rattle.columns.specs.Cols.{Cols, Same}
 use Rattle.dependencies.specs.Closure.{round}
 use Rattle.dependencies.specs.Tables.{Dep}
 use Rattle.dependencies.proofs.Rounds.{same_trans, round_same, step}

@@ -1,7 +1,7 @@
 -- Counting superkeys on both sides of a column tells whether it is in a key, and so third normal form is decided by one walk. Assumes nothing.
-use Rattle.std.proofs.Common.{◌≡◌, ℕ, zero, suc, ◌+◌, ◌*◌, ◌^◌, ◌<◌, ◌≤◌, Bool, true, false, not, ◌&&◌, ◌||◌, eqb, ◌⊎◌, List, [], ◌∷◌, ◌++◌, length, sym, refl, ap, ◌∙◌, subst, ap₂, inl, inr, append-nil, pow-suc, arith, eq-eqb, ne_eqb}
+use Rattle.std.proofs.Common.{◌≡◌, ℕ, ◌+◌, ◌^◌, ◌<◌, ◌≤◌, Bool, true, false, not, ◌&&◌, ◌||◌, eqb, ◌⊎◌, List, [], ◌∷◌, ◌++◌, length, sym, refl, ap, ◌∙◌, subst, ap₂, inl, inr, append-nil, pow-suc, arith, eq-eqb, ne_eqb}
 use Rattle.std.proofs.lemmas.Bool.{true≢false, both_ways, cases_Bool, cases_eq, and_parts, and_from, or_cases, or_left, or_right, not-true, not_from_false, eqb-true, eqb-false}
-use Rattle.columns.specs.Cols.{Cols, pick, has, all_in, less}
+use Rattle.columns.specs.Cols.{Cols, pick, has, less}
 use Rattle.columns.specs.Members.{In, Sub}
 use Rattle.columns.proofs.Columns.{has_in, in_has, has_not_in, not_in_has, in_or_not, all_in_sub, sub_all_in, in_less, less_in}
 use Rattle.columns.proofs.Lists.{same_test}
@@ -9,7 +9,6 @@ use Rattle.columns.proofs.Members.{in_left, in_right, in_either}
 use Rattle.dependencies.specs.Closure.{closure, does_fix}
 use Rattle.dependencies.specs.Tables.{Dep}
 use Rattle.dependencies.proofs.Fixing.{closure_monotone, fixes_monotone, implied_fixes, fixes_implied}
-use Rattle.keys.specs.Keys.{Key}
 use Rattle.schema.specs.Design.{IsThirdForm}
 use Rattle.verdict.specs.Superkeys.{superkeys, is_in_keys, is_loosely, is_loose}
 use Rattle.verdict.proofs.ThirdDecided.{key_with}

@@ -1,6 +1,6 @@
 -- The first tableau, row by row, and what the last one says. Assumes nothing.
-use Rattle.std.proofs.Common.{◌≡◌, ℕ, zero, suc, ◌+◌, ◌<◌, ◌≤◌, Bool, true, false, ◌||◌, ltb, ◌≢◌, List, [], ◌∷◌, ◌++◌, length, get_or, take, drop, set, replicate, sym, refl, ap, ◌∙◌, subst, inl, inr, append_assoc, append-nil, add-one, arith, length-set, drop-cons, get_or-set_other, get_or-set_same}
-use Rattle.std.proofs.lemmas.Bool.{cases_eq, cases_Bool, both_ways, ltb-true, ltb-false, true≢false}
+use Rattle.std.proofs.Common.{◌≡◌, ℕ, suc, ◌+◌, ◌<◌, ◌≤◌, Bool, true, false, ltb, List, [], ◌∷◌, ◌++◌, length, get_or, take, drop, set, replicate, sym, refl, ap, ◌∙◌, subst, inl, inr, append_assoc, append-nil, add-one, arith, length-set, get_or-set_other, get_or-set_same}
+use Rattle.std.proofs.lemmas.Bool.{cases_eq, cases_Bool, ltb-true, ltb-false, true≢false}
 use Rattle.std.proofs.lemmas.List.{get_or-replicate, take_all, take_more_set}
 use Rattle.columns.specs.Cols.{Cols, pick, has, Rising, columns}
 use Rattle.columns.specs.Every.{any}
@@ -14,7 +14,7 @@ use Rattle.dependencies.specs.Tables.{Row, Dep, agree, draw, zero_row}
 use Rattle.dependencies.proofs.Drawn.{cells_drawn, drawn}
 use Rattle.dependencies.proofs.Rows.{agree_same, same_agree}
 use Rattle.dependencies.proofs.Smalls.{Small}
-use Rattle.verdict.specs.Chase.{Fault, faults, first_cell, tableau}
+use Rattle.verdict.specs.Chase.{first_cell, tableau}
 use Rattle.verdict.specs.Deciding.{Decides}
 use Rattle.schema.specs.Design.{Part, LosesNothing}
 use Rattle.verdict.specs.Given.{headed}

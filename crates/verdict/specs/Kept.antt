@@ -1,7 +1,6 @@
 -- Tests of a part's own rules and of which parts lie inside others, one part and one rule at a time.
 use Rattle.std.specs.Prelude.{Bool, not, ◌&&◌, List}
 use Rattle.columns.specs.Cols.{Cols, all_in}
-use Rattle.columns.specs.Every.{every}
 use Rattle.dependencies.specs.Closure.{does_fix}
 use Rattle.dependencies.specs.Tables.{Dep}
 use Rattle.schema.specs.Design.{Part}

@@ -1,6 +1,6 @@
 -- The sets inside a part, split by one column after the other: how many are superkeys, which columns are in keys, and which less than
 -- a superkey fixes. Assumes nothing: these are definitions.
-use Rattle.std.specs.Prelude.{◌≡◌, ℕ, ◌+◌, Bool, true, false, not, ◌&&◌, ◌||◌, List, [], ◌∷◌, ◌==◌}
+use Rattle.std.specs.Prelude.{◌≡◌, ℕ, ◌+◌, Bool, false, not, ◌&&◌, ◌||◌, List, [], ◌∷◌, ◌==◌}
 use Rattle.columns.specs.Cols.{Cols, pick, has}
 use Rattle.columns.specs.Sets.{cols}
 use Rattle.dependencies.specs.Closure.{closure, does_fix}

@@ -1,4 +1,4 @@
-use Rattle.std.proofs.Common.{◌≡◌, ℕ, suc, eqb, sym, refl, ap, ◌∙◌}
+use Rattle.std.proofs.Common.{suc, eqb, sym, refl, ap, ◌∙◌}
 use Rattle.std.proofs.lemmas.Bool.{both_ways, eqb-true, eq-eqb}
 use Rattle.columns.specs.Cols.{Same, Cols, has}
 use Rattle.columns.specs.Sets.{cols}

@@ -1,8 +1,8 @@
-use Rattle.std.proofs.Common.{◌≡◌, ℕ, suc, ◌+◌, ◌*◌, List, [], ◌∷◌, sym, ap, ◌∙◌, subst, add-one, arith}
+use Rattle.std.proofs.Common.{◌≡◌, suc, ◌+◌, ◌*◌, List, [], ◌∷◌, sym, ap, ◌∙◌, subst, add-one, arith}
 use Rattle.columns.specs.Cols.{Cols, set_in}
 use Rattle.columns.specs.Sets.{cols}
 use Rattle.dependencies.specs.Tables.{Dep}
-use Rattle.dependencies.specs.Layout.{columns_of, rules_of_row, sets_told}
+use Rattle.dependencies.specs.Layout.{columns_of, rules_of_row}
 use Rattle.dependencies.specs.Rules.{deps}
 use Rattle.dependencies.specs.Told.{refused}
 use Rattle.dependencies.specs.Meaning.{Says}

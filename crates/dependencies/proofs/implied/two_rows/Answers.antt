@@ -1,7 +1,7 @@
-use Rattle.std.proofs.Common.{◌≡◌, ℕ, ◌<◌, ◌∷◌, length, sym, ap, ◌∙◌, arith}
+use Rattle.std.proofs.Common.{ℕ, ◌<◌, ◌∷◌, sym, ap, ◌∙◌, arith}
 use Rattle.columns.specs.Sets.{cols}
 use Rattle.columns.proofs.SetNumbers.{cols_rising}
-use Rattle.dependencies.proofs.Differing.{Half, half_start, half_turn, half_end, zeros}
+use Rattle.dependencies.proofs.Differing.{half_start, half_turn, half_end, zeros}
 use Rattle.dependencies.proofs.implied.two_rows.Goals as goal
 
 pub loop-c-init : goal.loop-c-init

@@ -1,4 +1,4 @@
-use Rattle.std.proofs.Common.{◌≡◌, ℕ, ◌&&◌, leb, ap, arith, tests}
+use Rattle.std.proofs.Common.{ℕ, ◌&&◌, leb, ap, arith, tests}
 use Rattle.std.proofs.lemmas.List.{get_or_past}
 use Rattle.dependencies.proofs.input.width_in.Goals as goal
 

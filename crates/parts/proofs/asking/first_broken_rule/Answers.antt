@@ -1,9 +1,8 @@
-use Rattle.std.proofs.Common.{◌≡◌, ℕ, ◌+◌, ◌-◌, List, get_or, take, drop, Some, None, sym, refl, ap, ◌∙◌, arith}
-use Rattle.dependencies.specs.Layout.{rules_in}
+use Rattle.std.proofs.Common.{ℕ, ◌+◌, ◌-◌, List, get_or, take, sym, refl, ap, ◌∙◌, arith}
 use Rattle.dependencies.specs.Rules.{dep}
 use Rattle.parts.specs.Day.{looks_of}
 use Rattle.parts.specs.Store.{held_in}
-use Rattle.parts.specs.Answers.{clash, broken_in}
+use Rattle.parts.specs.Answers.{clash}
 use Rattle.parts.proofs.Decoded.{held_length, held_at}
 use Rattle.parts.proofs.Walks.{part_sound, part_long, rows_long, left_next, left_start, broken_start, size_is, broken_stop, broken_next, broken_end}
 use Rattle.parts.proofs.Breaking.{rule_next, rule_stop, rule_end, row_next, row_stop, row_end}

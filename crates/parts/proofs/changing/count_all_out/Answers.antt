@@ -1,4 +1,4 @@
-use Rattle.std.proofs.Common.{◌≡◌, ℕ, ◌+◌, ◌*◌, ◌≤◌, length, sym, refl, ap, ◌∙◌, arith, rules}
+use Rattle.std.proofs.Common.{◌≡◌, ℕ, ◌+◌, ◌*◌, ◌≤◌, length, refl, ap, arith, rules}
 use Rattle.columns.specs.Sets.{cols}
 use Rattle.parts.specs.Day.{one_less, all_less}
 use Rattle.parts.proofs.Walks.{size_is}

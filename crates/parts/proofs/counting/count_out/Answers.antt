@@ -1,4 +1,4 @@
-use Rattle.std.proofs.Common.{◌≡◌, ℕ, ◌+◌, ◌-◌, ◌*◌, ◌<◌, ◌≤◌, length, get_or, set, sym, refl, ap, ◌∙◌, subst, ap₂, arith}
+use Rattle.std.proofs.Common.{◌≡◌, ℕ, ◌+◌, ◌-◌, ◌*◌, ◌<◌, get_or, set, sym, refl, ap, ◌∙◌, subst, ap₂, arith}
 use Rattle.columns.specs.Sets.{cols}
 use Rattle.parts.specs.Day.{one_less}
 use Rattle.parts.specs.Store.{held_in, Clean}

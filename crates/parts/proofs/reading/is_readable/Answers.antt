@@ -1,8 +1,8 @@
-use Rattle.std.proofs.Common.{◌≡◌, ℕ, ◌+◌, ◌-◌, ◌*◌, ◌<◌, ◌≤◌, Bool, true, false, ◌&&◌, List, length, get_or, take, drop, sym, refl, ap, ◌∙◌, ap₂, arith, length-drop, length-take, rules, tests}
+use Rattle.std.proofs.Common.{◌≡◌, ℕ, ◌+◌, ◌-◌, ◌*◌, ◌<◌, ◌≤◌, Bool, true, ◌&&◌, List, length, get_or, take, drop, sym, refl, ap, ◌∙◌, ap₂, arith, length-drop, length-take, rules, tests}
 use Rattle.std.proofs.lemmas.List.{take_rest}
 use Rattle.std.proofs.lemmas.Bool.{and_left}
-use Rattle.parts.specs.Store.{whole_part, formed, readable}
-use Rattle.parts.proofs.Formed.{no_parts, too_many_parts, read_parts, formed_more, formed_none, not_empty, nothing_lent}
+use Rattle.parts.specs.Store.{whole_part, formed}
+use Rattle.parts.proofs.Formed.{no_parts, too_many_parts, read_parts, formed_more, formed_none, nothing_lent}
 use Rattle.parts.proofs.reading.is_readable.Goals as goal
 
 -- without the part at the front

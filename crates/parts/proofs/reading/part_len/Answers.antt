@@ -1,4 +1,4 @@
-use Rattle.std.proofs.Common.{◌≡◌, ◌*◌, get_or, sym, refl, ◌∙◌, arith}
+use Rattle.std.proofs.Common.{◌*◌, get_or, sym, refl, ◌∙◌, arith}
 use Rattle.std.proofs.lemmas.Bool.{lt-ltb, le-ltb}
 use Rattle.parts.proofs.Formed.{too_short, too_many, set_outside, rule_outside, part_stands, fit_behind}
 use Rattle.parts.proofs.reading.part_len.Goals as goal

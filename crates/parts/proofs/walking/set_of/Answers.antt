@@ -1,4 +1,4 @@
-use Rattle.std.proofs.Common.{◌≡◌, ℕ, ap, ◌∙◌, arith}
+use Rattle.std.proofs.Common.{ℕ, ap, ◌∙◌, arith}
 use Rattle.columns.specs.Cols.{set_in}
 use Rattle.parts.proofs.Formed.{low_set, low_mask, low_below}
 use Rattle.parts.proofs.walking.set_of.Goals as goal

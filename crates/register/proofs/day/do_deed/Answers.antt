@@ -1,4 +1,4 @@
-use Rattle.std.proofs.Common.{◌≡◌, sym, refl, ap, ◌∙◌, subst}
+use Rattle.std.proofs.Common.{ap, ◌∙◌, subst}
 use Rattle.schema.specs.Layout.{design_in}
 use Rattle.parts.specs.Day.{Deed}
 use Rattle.parts.specs.Store.{room_of, held_of}

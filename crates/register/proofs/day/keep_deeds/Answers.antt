@@ -1,4 +1,4 @@
-use Rattle.std.proofs.Common.{◌≡◌, ℕ, ◌+◌, ◌≤◌, length, refl, ap, subst, arith, rules}
+use Rattle.std.proofs.Common.{◌≡◌, ℕ, ◌+◌, refl, ap, subst, arith}
 use Rattle.register.specs.Deeds.{DeedsKept}
 use Rattle.register.proofs.Daily.{kept_start, deed_long, kept_next, kept_end, deeds_stop, deeds_over}
 use Rattle.register.proofs.day.keep_deeds.Goals as goal

@@ -1,4 +1,4 @@
-use Rattle.std.proofs.Common.{◌≡◌, ℕ, List, [], ◌∷◌, Result, sym, ap, ◌∙◌, ap₂}
+use Rattle.std.proofs.Common.{ℕ, List, [], ◌∷◌, Result, sym, ap, ◌∙◌, ap₂}
 use Rattle.dependencies.specs.Told.{number, place}
 use Rattle.dependencies.specs.declared.refusals.Refusal.{Refusal}
 use Rattle.parts.specs.Answers.{outcome}

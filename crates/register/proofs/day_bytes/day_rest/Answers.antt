@@ -1,5 +1,4 @@
-use Rattle.std.proofs.Common.{◌≡◌, ℕ, ◌+◌, ◌-◌, ◌*◌, ◌/◌, ◌<◌, ◌≤◌, length, take, drop, sym, refl, ap, ◌∙◌, subst, arith, rules}
-use Rattle.register.specs.DayBytes.{deed_bytes}
+use Rattle.std.proofs.Common.{ℕ, ◌-◌, ◌*◌, ◌/◌, ◌<◌, ◌≤◌, length, take, drop, refl, subst, arith, rules}
 use Rattle.register.proofs.ByteDays.{answered_fits, nothing_left, left_is, rest_ended, rest_none, rest_whole, rest_cut}
 use Rattle.register.proofs.day_bytes.day_rest.Goals as goal
 

@@ -1,4 +1,4 @@
-use Rattle.std.proofs.Common.{◌≡◌, ℕ, ◌+◌, ◌-◌, ◌*◌, ◌≤◌, List, ◌++◌, length, drop, sym, refl, ap, ◌∙◌, arith, length-drop, length-take, rules}
+use Rattle.std.proofs.Common.{ℕ, ◌+◌, ◌*◌, ◌≤◌, ◌++◌, length, drop, refl, ap, ◌∙◌, arith, length-drop, length-take, rules}
 use Rattle.register.specs.DayBytes.{deeds_of_bytes}
 use Rattle.register.proofs.ByteDays.{deeds_start, deed_there, deeds_next, deeds_end, slot_fits}
 use Rattle.register.proofs.day_bytes.deeds_from_bytes.Goals as goal

@@ -1,4 +1,4 @@
-use Rattle.std.proofs.Common.{◌≡◌, ℕ, ◌+◌, ◌*◌, ◌/◌, ◌≤◌, length, sym, ap, ◌∙◌, subst, arith}
+use Rattle.std.proofs.Common.{◌≡◌, ℕ, ◌+◌, ◌*◌, ◌/◌, ◌≤◌, length, sym, ap, subst, arith}
 use Rattle.register.specs.DayBytes.{deed_bytes}
 use Rattle.register.proofs.Daily.{whole_fits, fewer_fit}
 use Rattle.register.proofs.ByteDays.{fewer_first, fewer_other}

@@ -1,4 +1,4 @@
-use Rattle.std.proofs.Common.{length, get_or, take, drop, set, refl, arith, length-drop, length-set, length-take}
+use Rattle.std.proofs.Common.{get_or, refl, arith, length-drop, length-set, length-take}
 use Rattle.std.proofs.lemmas.List.{take_rest}
 use Rattle.register.proofs.ByteDays.{deed_written}
 use Rattle.register.proofs.day_bytes.write_deed.Goals as goal

@@ -1,4 +1,4 @@
-use Rattle.std.proofs.Common.{◌≡◌, List, sym, subst}
+use Rattle.std.proofs.Common.{List, sym, subst}
 use Rattle.dependencies.specs.Rules.{deps}
 use Rattle.dependencies.specs.Tables.{Row}
 use Rattle.verdict.specs.Sweeps.{AllQuiet}

@@ -1,7 +1,7 @@
 use Rattle.std.proofs.Common.{◌≡◌, ℕ, ◌<◌, ◌∷◌, length, sym, ap, ◌∙◌, arith}
 use Rattle.columns.specs.Sets.{cols}
 use Rattle.columns.proofs.SetNumbers.{cols_rising}
-use Rattle.verdict.proofs.Tableaux.{Filling, filling_start, filling_turn, filling_end}
+use Rattle.verdict.proofs.Tableaux.{filling_start, filling_turn, filling_end}
 use Rattle.verdict.proofs.chase.first_row.Goals as goal
 
 pub loop-c-init : goal.loop-c-init

@@ -1,6 +1,6 @@
-use Rattle.std.proofs.Common.{◌≡◌, ℕ, suc, ◌+◌, ◌<◌, Bool, true, false, ◌||◌, List, [], ◌∷◌, length, get_or, drop, sym, refl, ap, ◌∙◌, add-one, drop-cons}
+use Rattle.std.proofs.Common.{◌≡◌, ℕ, ◌+◌, ◌<◌, Bool, ◌||◌, List, [], ◌∷◌, length, get_or, drop, sym, refl, ap, ◌∙◌, add-one, drop-cons}
 use Rattle.std.proofs.lemmas.List.{drop_all}
-use Rattle.columns.specs.Cols.{Cols, columns}
+use Rattle.columns.specs.Cols.{Cols}
 use Rattle.columns.specs.Every.{any}
 use Rattle.columns.specs.Sets.{cols}
 use Rattle.dependencies.specs.Tables.{Row, agree, zero_row}

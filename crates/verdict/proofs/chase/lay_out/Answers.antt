@@ -1,8 +1,7 @@
-use Rattle.std.proofs.Common.{◌≡◌, ℕ, ◌+◌, ◌<◌, List, [], length, sym, refl, ap, arith}
+use Rattle.std.proofs.Common.{◌≡◌, length, refl, ap, arith}
 use Rattle.columns.specs.Sets.{cols}
-use Rattle.schema.specs.Design.{Part}
 use Rattle.verdict.specs.Given.{given_parts}
-use Rattle.verdict.proofs.Tableaux.{Laying, laying_turn, laying_end}
+use Rattle.verdict.proofs.Tableaux.{laying_turn, laying_end}
 use Rattle.verdict.proofs.chase.lay_out.Goals as goal
 
 pub loop-i-init : goal.loop-i-init

@@ -1,12 +1,10 @@
-use Rattle.std.proofs.Common.{◌≡◌, ℕ, ◌<◌, ◌≤◌, Bool, List, length, sym, ap, ◌∙◌, subst, arith}
+use Rattle.std.proofs.Common.{◌≡◌, List, ap, ◌∙◌, subst, arith}
 use Rattle.columns.specs.Cols.{columns}
 use Rattle.columns.specs.Every.{any}
 use Rattle.columns.specs.declared.table_width.Width.{Width}
 use Rattle.dependencies.specs.Reads.{rules_of}
 use Rattle.dependencies.specs.Rules.{deps}
 use Rattle.dependencies.specs.Tables.{Row, Dep, agree, zero_row}
-use Rattle.dependencies.specs.declared.rules.Rule.{Rule}
-use Rattle.dependencies.proofs.Smalls.{Small}
 use Rattle.verdict.specs.Chase.{tableau}
 use Rattle.verdict.specs.Given.{given_parts}
 use Rattle.verdict.specs.Sweeps.{Chased, AllQuiet, blank}

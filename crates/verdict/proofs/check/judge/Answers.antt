@@ -1,12 +1,11 @@
-use Rattle.std.proofs.Common.{◌≡◌, ℕ, ◌-◌, ◌<◌, ◌≤◌, List, ◌++◌, length, take, drop, sym, refl, ap, ◌∙◌, subst, inl, inr, arith, length-take}
-use Rattle.columns.specs.Members.{In}
+use Rattle.std.proofs.Common.{◌≡◌, ℕ, ◌-◌, ◌≤◌, List, ◌++◌, length, take, drop, sym, refl, ap, ◌∙◌, subst, inl, inr, arith, length-take}
 use Rattle.columns.specs.declared.table_width.Width.{Width}
 use Rattle.dependencies.specs.Reads.{rules_of}
 use Rattle.dependencies.specs.Rules.{deps}
 use Rattle.dependencies.specs.Tables.{Row, Dep}
 use Rattle.dependencies.specs.declared.refusals.Condition.TheVariants.{Covers, NoneInside, Lossless, RulesKept, ThirdForm}
 use Rattle.verdict.specs.Decided.{Condition}
-use Rattle.schema.specs.Design.{Part, LosesNothing, KeepsRules, IsThirdForm}
+use Rattle.schema.specs.Design.{KeepsRules, IsThirdForm}
 use Rattle.verdict.specs.Given.{given_parts}
 use Rattle.verdict.specs.Sweeps.{blank}
 use Rattle.verdict.specs.declared.given_design.GivenDesign.{GivenDesign}

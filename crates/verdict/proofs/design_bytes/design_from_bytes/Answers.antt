@@ -1,8 +1,7 @@
-use Rattle.std.proofs.Common.{◌≡◌, ℕ, ◌+◌, ◌-◌, ◌*◌, ◌/◌, ◌<◌, ◌≤◌, List, [], length, get_or, take, drop, set, sym, refl, ap, ◌∙◌, subst, arith}
+use Rattle.std.proofs.Common.{◌≡◌, ℕ, ◌+◌, ◌-◌, ◌*◌, ◌/◌, List, length, get_or, take, drop, set, sym, ap, ◌∙◌, subst, arith}
 use Rattle.std.proofs.lemmas.List.{take_rest}
 use Rattle.dependencies.specs.Bytes.{sets_in_bytes}
 use Rattle.dependencies.specs.Lent.{put_list}
-use Rattle.verdict.specs.DesignBytes.{design_of_bytes}
 use Rattle.verdict.proofs.DesignRows.{Reading, Read, none_of_bytes, reading_starts, reading_turn, reading_ends, reading_done}
 use Rattle.verdict.proofs.design_bytes.design_from_bytes.Goals as goal
 

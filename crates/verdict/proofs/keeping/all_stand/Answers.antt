@@ -1,4 +1,4 @@
-use Rattle.std.proofs.Common.{◌≡◌, Bool, List, sym, refl, ap, ◌∙◌}
+use Rattle.std.proofs.Common.{Bool, List, sym, refl, ap, ◌∙◌}
 use Rattle.columns.specs.Every.{every}
 use Rattle.columns.specs.Sets.{cols}
 use Rattle.dependencies.specs.Rules.{deps}

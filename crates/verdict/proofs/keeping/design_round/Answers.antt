@@ -1,5 +1,5 @@
-use Rattle.std.proofs.Common.{◌≡◌, List, get_or, sym, refl, ap, ◌∙◌, subst}
-use Rattle.columns.specs.Cols.{Cols, Same}
+use Rattle.std.proofs.Common.{List, get_or, refl, subst}
+use Rattle.columns.specs.Cols.{Same}
 use Rattle.columns.specs.Sets.{cols}
 use Rattle.dependencies.specs.Closure.{round}
 use Rattle.dependencies.specs.Tables.{Dep}

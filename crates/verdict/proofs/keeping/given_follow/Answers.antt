@@ -1,10 +1,9 @@
-use Rattle.std.proofs.Common.{◌≡◌, ℕ, suc, ◌+◌, ◌<◌, Bool, true, false, ◌&&◌, List, [], ◌∷◌, length, get_or, drop, sym, refl, ap, ◌∙◌, add-one, drop-cons}
+use Rattle.std.proofs.Common.{◌≡◌, ℕ, ◌+◌, ◌<◌, Bool, true, ◌&&◌, List, [], ◌∷◌, length, get_or, drop, sym, refl, ap, ◌∙◌, add-one, drop-cons}
 use Rattle.std.proofs.lemmas.List.{drop_all}
-use Rattle.columns.specs.Cols.{Cols, all_in, Same}
 use Rattle.columns.specs.Sets.{cols}
 use Rattle.columns.proofs.Lists.{all_same}
 use Rattle.dependencies.specs.Closure.{closure, does_fix, do_follow}
-use Rattle.dependencies.specs.Rules.{dep, deps}
+use Rattle.dependencies.specs.Rules.{deps}
 use Rattle.dependencies.specs.Tables.{Dep}
 use Rattle.dependencies.specs.declared.rules.Rule.{Rule}
 use Rattle.schema.specs.Design.{all_rules}

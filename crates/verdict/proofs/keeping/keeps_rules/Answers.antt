@@ -2,7 +2,6 @@ use Rattle.std.proofs.Common.{◌≡◌, Bool, true, false, ◌&&◌, List, sym,
 use Rattle.std.proofs.lemmas.Bool.{true≢false, and_parts, and_from}
 use Rattle.columns.specs.Cols.{all_in}
 use Rattle.columns.specs.Every.{every}
-use Rattle.columns.specs.Members.{In}
 use Rattle.columns.proofs.Everyone.{every_at, every_from}
 use Rattle.dependencies.specs.Closure.{does_fix, do_follow}
 use Rattle.dependencies.specs.Rules.{deps}
@@ -10,7 +9,7 @@ use Rattle.dependencies.specs.Tables.{Dep}
 use Rattle.verdict.specs.Deciding.{Decides}
 use Rattle.schema.specs.Design.{Part, all_rules, KeepsRules}
 use Rattle.verdict.specs.Given.{given_parts}
-use Rattle.verdict.specs.Judge.{does_keep_rules, is_own}
+use Rattle.verdict.specs.Judge.{is_own}
 use Rattle.verdict.specs.Kept.{does_stand}
 use Rattle.verdict.proofs.Conditions.{keeps_to, keeps_from}
 use Rattle.schema.proofs.Lossless.{rule_of_part, part_has_rule}

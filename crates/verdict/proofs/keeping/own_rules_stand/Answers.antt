@@ -1,4 +1,4 @@
-use Rattle.std.proofs.Common.{◌≡◌, sym, refl, ◌∙◌}
+use Rattle.std.proofs.Common.{sym, refl, ◌∙◌}
 use Rattle.columns.specs.Sets.{cols}
 use Rattle.dependencies.specs.Rules.{dep, deps}
 use Rattle.verdict.specs.Given.{own_of}

@@ -1,5 +1,4 @@
-use Rattle.std.proofs.Common.{◌≡◌, Bool, true, false, ◌&&◌, sym, refl, ap, ◌∙◌, ap₂}
-use Rattle.columns.specs.Cols.{Cols, all_in}
+use Rattle.std.proofs.Common.{Bool, ◌&&◌, refl, ◌∙◌, ap₂}
 use Rattle.columns.specs.Sets.{cols}
 use Rattle.columns.proofs.Lists.{all_same}
 use Rattle.dependencies.specs.Closure.{closure, does_fix}

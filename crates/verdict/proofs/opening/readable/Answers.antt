@@ -1,5 +1,5 @@
-use Rattle.std.proofs.Common.{◌≡◌, ℕ, ◌-◌, ◌<◌, Bool, true, false, ◌&&◌, List, length, get_or, drop, sym, refl, ap, ◌∙◌, subst, arith}
-use Rattle.verdict.specs.Given.{is_readable, is_first_whole, is_whole}
+use Rattle.std.proofs.Common.{ℕ, ◌-◌, ◌<◌, Bool, ◌&&◌, List, length, get_or, drop, sym, ap, ◌∙◌, arith}
+use Rattle.verdict.specs.Given.{is_whole}
 use Rattle.verdict.proofs.GivenWalk.{size}
 use Rattle.verdict.proofs.Wholes.{whole_front, whole_none, readable_whole, readable_none}
 use Rattle.verdict.proofs.opening.readable.Goals as goal

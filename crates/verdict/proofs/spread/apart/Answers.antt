@@ -1,7 +1,6 @@
-use Rattle.std.proofs.Common.{◌≡◌, Bool, true, false, not, ◌&&◌, List, sym, refl, ap, ◌∙◌, ap₂}
-use Rattle.columns.specs.Cols.{Cols, all_in}
+use Rattle.std.proofs.Common.{◌≡◌, Bool, true, false, not, ◌&&◌, sym, refl, ap, ◌∙◌, ap₂}
+use Rattle.columns.specs.Cols.{all_in}
 use Rattle.columns.specs.Sets.{cols}
-use Rattle.schema.specs.Design.{Part}
 use Rattle.verdict.specs.Given.{given_parts}
 use Rattle.verdict.specs.Kept.{is_apart}
 use Rattle.verdict.proofs.GivenLoops.{every_turn, every_stop, every_end, shorter, headpart}

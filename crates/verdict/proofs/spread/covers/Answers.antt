@@ -1,4 +1,4 @@
-use Rattle.std.proofs.Common.{◌≡◌, List, [], sym, ap, ◌∙◌}
+use Rattle.std.proofs.Common.{ap, ◌∙◌}
 use Rattle.columns.specs.Cols.{Cols, all_in}
 use Rattle.columns.specs.Sets.{cols}
 use Rattle.verdict.specs.Given.{given_parts}

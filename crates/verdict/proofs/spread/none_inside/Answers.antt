@@ -1,4 +1,4 @@
-use Rattle.std.proofs.Common.{◌≡◌, Bool, true, false, ◌&&◌, List, [], ◌∷◌, drop, sym, refl, ap, ◌∙◌}
+use Rattle.std.proofs.Common.{◌≡◌, Bool, ◌&&◌, List, drop, sym, refl, ap, ◌∙◌}
 use Rattle.columns.specs.Cols.{Cols}
 use Rattle.columns.specs.Every.{every}
 use Rattle.columns.specs.Sets.{cols}

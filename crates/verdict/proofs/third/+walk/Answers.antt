@@ -1,7 +1,7 @@
-use Rattle.std.proofs.Common.{◌≡◌, ℕ, zero, suc, ◌+◌, ◌/◌, ◌%◌, ◌^◌, ◌<◌, ◌≤◌, Bool, true, false, not, ◌&&◌, ◌||◌, eqb, List, [], ◌∷◌, length, sym, refl, ap, ◌∙◌, subst, ap₂, inl, inr, arith, pow_mono, rules, eq-eqb}
+use Rattle.std.proofs.Common.{◌≡◌, ℕ, zero, suc, ◌+◌, ◌/◌, ◌%◌, ◌^◌, ◌<◌, ◌≤◌, Bool, not, ◌&&◌, ◌||◌, eqb, List, ◌∷◌, length, sym, ap, ◌∙◌, subst, ap₂, inl, inr, arith, pow_mono, rules, eq-eqb}
 use Rattle.std.proofs.lemmas.Bool.{or_cases, or_left, or_right, eqb-true}
-use Rattle.columns.specs.Cols.{Cols, pick, has, set_in}
-use Rattle.columns.specs.Members.{In, Sub}
+use Rattle.columns.specs.Cols.{Cols, has, set_in}
+use Rattle.columns.specs.Members.{Sub}
 use Rattle.columns.specs.Sets.{cols}
 use Rattle.columns.specs.declared.set.ColumnSet.{ColumnSet}
 use Rattle.columns.proofs.Columns.{has_in, in_has}

@@ -1,7 +1,7 @@
-use Rattle.std.proofs.Common.{◌≡◌, ℕ, Bool, true, false, List, [], sym, refl, ap, ◌∙◌, subst}
-use Rattle.columns.specs.Cols.{Cols, has, all_in}
+use Rattle.std.proofs.Common.{◌≡◌, Bool, true, false, List, [], sym, ◌∙◌, subst}
+use Rattle.columns.specs.Cols.{Cols, all_in}
 use Rattle.columns.specs.Sets.{cols}
-use Rattle.columns.proofs.Columns.{has_in, in_has, all_in_sub, sub_all_in, not_all_in}
+use Rattle.columns.proofs.Columns.{has_in, in_has, all_in_sub, not_all_in}
 use Rattle.dependencies.specs.Rules.{deps}
 use Rattle.dependencies.specs.Tables.{Dep}
 use Rattle.verdict.specs.Deciding.{Decides}

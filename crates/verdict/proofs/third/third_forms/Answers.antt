@@ -1,6 +1,5 @@
-use Rattle.std.proofs.Common.{◌≡◌, ◌⊎◌, List, [], ◌∷◌, sym, refl, ap, ◌∙◌, subst, inl, inr}
+use Rattle.std.proofs.Common.{List, sym, refl, subst, inl, inr}
 use Rattle.columns.specs.Members.{In}
-use Rattle.columns.specs.Sets.{cols}
 use Rattle.dependencies.specs.Rules.{deps}
 use Rattle.schema.specs.Design.{Part, IsThirdForm}
 use Rattle.verdict.specs.Given.{given_parts}

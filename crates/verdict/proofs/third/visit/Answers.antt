@@ -1,10 +1,10 @@
-use Rattle.std.proofs.Common.{◌≡◌, ℕ, Bool, true, false, not, ◌&&◌, [], sym, refl, ap, ◌∙◌, subst, ap₂}
+use Rattle.std.proofs.Common.{◌≡◌, ℕ, Bool, true, false, not, ◌&&◌, [], sym, refl, ap, ◌∙◌}
 use Rattle.columns.specs.Cols.{Cols, pick, has}
 use Rattle.columns.specs.Sets.{cols}
 use Rattle.columns.proofs.Lists.{all_same}
 use Rattle.dependencies.specs.Closure.{closure, does_fix}
 use Rattle.dependencies.specs.Rules.{deps}
-use Rattle.verdict.specs.Superkeys.{superkeys, is_in_keys, is_loosely, is_loose}
+use Rattle.verdict.specs.Superkeys.{superkeys, is_in_keys, is_loose}
 use Rattle.verdict.proofs.third.visit.Goals as goal
 
 nothing : (s : Cols) (a : ℕ) → s ≡ [] → has s a ≡ false

@@ -1,11 +1,11 @@
-use Rattle.std.proofs.Common.{◌≡◌, ℕ, ◌/◌, ◌%◌, ◌^◌, ◌<◌, Bool, true, false, not, eqb, sym, ap, ◌∙◌, arith}
-use lib.Bits.{bit_and, bit_xor, and_mask, xor_lt}
+use Rattle.std.proofs.Common.{ℕ, ◌/◌, ◌%◌, ◌^◌, Bool, not, eqb, sym, ap, ◌∙◌, arith}
+use lib.Bits.{bit_xor, and_mask, xor_lt}
 use lib.Count.{count_trailing_zeros}
 use Rattle.std.proofs.lemmas.Bool.{eq-eqb, ne_eqb}
 use Rattle.columns.specs.Cols.{pick, set_in}
 use Rattle.columns.specs.Order.{before}
 use Rattle.columns.specs.Sets.{cols}
-use Rattle.columns.proofs.Compared.{tell, order, before_self, xor_none, trailing_below}
+use Rattle.columns.proofs.Compared.{order, before_self, xor_none, trailing_below}
 use Rattle.columns.proofs.set.ColumnSet.precedes.Goals as goal
 
 pub returns-then-differ-eq0 : goal.returns-then-differ-eq0

@@ -1,8 +1,7 @@
-use Rattle.std.proofs.Common.{◌≡◌, ℕ, ◌+◌, List, ◌++◌, get_or, drop, codes, sym, refl, ap, ◌∙◌, subst}
+use Rattle.std.proofs.Common.{ℕ, ◌+◌, List, ◌++◌, get_or, drop, codes, sym, refl, ap, subst}
 use Rattle.std.proofs.Output.{has_written_of_eq}
 use Rattle.std.proofs.lemmas.List.{drop_all}
 use Rattle.columns.specs.Cols.{Cols, set_in}
-use Rattle.columns.specs.Sets.{cols}
 use Rattle.columns.specs.Shown.{listed}
 use Rattle.columns.proofs.Printed.{LedBut, none_led, one_led, skip_led, all_led}
 use Rattle.keys.specs.Shown.{key_lead, fitting}

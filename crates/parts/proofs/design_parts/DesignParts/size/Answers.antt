@@ -1,4 +1,4 @@
-use Rattle.std.proofs.Common.{◌≡◌, ℕ, ◌+◌, ◌*◌, ◌/◌, ◌≤◌, get_or, sym, ◌∙◌, subst, ap₂, arith, rules}
+use Rattle.std.proofs.Common.{◌≡◌, ℕ, ◌+◌, ◌*◌, ◌/◌, ◌≤◌, get_or, sym, subst, ap₂, rules}
 use Rattle.parts.proofs.Formed.{readable_says}
 use Rattle.parts.proofs.Walks.{shares_fit, share_small}
 use Rattle.parts.proofs.design_parts.DesignParts.size.Goals as goal

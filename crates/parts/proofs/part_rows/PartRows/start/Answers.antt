@@ -1,4 +1,4 @@
-use Rattle.std.proofs.Common.{◌≡◌, ℕ, ◌+◌, ◌*◌, ◌<◌, ◌≤◌, length, sym, refl, ap, ◌∙◌, arith, rules}
+use Rattle.std.proofs.Common.{ℕ, ◌+◌, ◌*◌, ◌<◌, length, ap, arith, rules}
 use Rattle.parts.proofs.Spaces.{row_inside}
 use Rattle.parts.proofs.part_rows.PartRows.start.Goals as goal
 

@@ -1,4 +1,4 @@
-use Rattle.std.proofs.Common.{◌+◌, ◌*◌, ◌<◌, length, arith, rules}
+use Rattle.std.proofs.Common.{◌+◌, ◌*◌, ◌<◌, length, rules}
 use Rattle.parts.proofs.Spaces.{row_inside}
 use Rattle.parts.proofs.part_rows.PartRows.times.Goals as goal
 

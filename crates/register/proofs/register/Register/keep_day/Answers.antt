@@ -1,4 +1,4 @@
-use Rattle.std.proofs.Common.{◌≡◌, ℕ, refl, ◌∙◌, subst, rules}
+use Rattle.std.proofs.Common.{◌≡◌, ℕ, subst, rules}
 use Rattle.dependencies.specs.Layout.{columns_of}
 use Rattle.register.specs.Deeds.{DayKept}
 use Rattle.register.proofs.Whole.{day_kept}

@@ -1,5 +1,5 @@
-use Rattle.std.proofs.Common.{◌≡◌, ℕ, ◌-◌, List, [], ◌∷◌, get_or, drop, sym, ap, ◌∙◌, subst, arith}
-use Rattle.columns.specs.Cols.{Cols, set_in}
+use Rattle.std.proofs.Common.{◌-◌, List, ◌∷◌, get_or, drop, sym, ap, ◌∙◌, arith}
+use Rattle.columns.specs.Cols.{Cols}
 use Rattle.columns.specs.Sets.{cols}
 use Rattle.dependencies.specs.Layout.{rules_in}
 use Rattle.schema.specs.Design.{Part}

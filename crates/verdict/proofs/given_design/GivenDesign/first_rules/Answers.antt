@@ -1,8 +1,7 @@
-use Rattle.std.proofs.Common.{◌≡◌, ℕ, ◌-◌, ◌*◌, ◌≤◌, true, List, [], ◌∷◌, length, get_or, drop, sym, refl, ap, ◌∙◌, subst, arith}
-use Rattle.dependencies.specs.Tables.{Dep}
+use Rattle.std.proofs.Common.{◌≡◌, ℕ, ◌*◌, ◌≤◌, true, List, length, get_or, sym, refl, ap, ◌∙◌, subst, arith}
 use Rattle.dependencies.specs.Layout.{rules_in}
 use Rattle.schema.specs.Design.{Part, no_part}
-use Rattle.schema.specs.Layout.{parts_in, all_sets_fit}
+use Rattle.schema.specs.Layout.{all_sets_fit}
 use Rattle.verdict.proofs.GivenWalk.{no_rule, no_sets, no_parts, first_part, part_fits, part_whole}
 use Rattle.verdict.proofs.given_design.GivenDesign.first_rules.Goals as goal
 

@@ -1,7 +1,7 @@
-use Rattle.std.proofs.Common.{◌≡◌, ℕ, ◌+◌, ◌-◌, ◌*◌, ◌≤◌, true, List, [], length, get_or, drop, sym, ap, ◌∙◌, subst, arith, rules}
+use Rattle.std.proofs.Common.{◌≡◌, ℕ, ◌-◌, ◌≤◌, true, List, length, drop, sym, ap, ◌∙◌, subst, arith, rules}
 use Rattle.schema.specs.Design.{Part}
 use Rattle.schema.specs.Layout.{parts_in, parts_fit, extent}
-use Rattle.verdict.proofs.GivenWalk.{no_parts, first_part, part_fits, part_whole, size}
+use Rattle.verdict.proofs.GivenWalk.{no_parts, first_part, part_fits, part_whole}
 use Rattle.verdict.proofs.given_design.GivenDesign.rest.Goals as goal
 
 pub returns-then-self-eq0 : goal.returns-then-self-eq0

@@ -1,4 +1,4 @@
-use Rattle.std.proofs.Common.{◌≡◌, ℕ, ◌-◌, ◌*◌, ◌≤◌, true, List, [], length, drop, sym, ap, ◌∙◌, subst, arith, length-drop}
+use Rattle.std.proofs.Common.{◌≡◌, ℕ, ◌-◌, ◌*◌, ◌≤◌, true, List, length, drop, sym, ap, ◌∙◌, subst, arith, length-drop}
 use Rattle.dependencies.specs.Tables.{Dep}
 use Rattle.dependencies.specs.Layout.{rules_in}
 use Rattle.schema.specs.Layout.{all_sets_fit}
