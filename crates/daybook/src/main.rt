@@ -33,8 +33,8 @@ fn show_answers(rt: &HostRuntime, answers: &[u64]) -> io::Result<()> {
 fn show_rest(rt: &HostRuntime, rest: DayRest) -> anyhow::Result<()> {
     match rest {
         DayRest::Ended => Ok(()),
-        DayRest::NoDeed => Err(anyhow!("a deed begins with neither 0 nor 1")),
-        DayRest::Unanswered => Err(anyhow!("a deed had no room")),
+        DayRest::NoDeed => Err(anyhow!("{:?}", "a deed begins with neither 0 nor 1")),
+        DayRest::Unanswered => Err(anyhow!("{:?}", "a deed had no room")),
         DayRest::CutShort(cells) => {
             let refusal = Refusal::Cells(cells);
             Ok(println!(rt; "{refusal}")?)
@@ -70,6 +70,7 @@ fn keep(rt: &HostRuntime, width: Width, bytes: &[u8]) -> anyhow::Result<()> {
 fn run(rt: &HostRuntime) -> anyhow::Result<()> {
     if env::args(rt)?.count() > 1 {
         return Err(anyhow!(
+            "{:?}",
             "usage: daybook < DAY (rules as for designer; then deeds: a byte, 0 to put in or 1 to take out, and four bytes a cell)"
         ));
     }

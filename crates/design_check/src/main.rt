@@ -19,7 +19,7 @@ fn check(rt: &HostRuntime, set: &RuleSet, bytes: &[u8]) -> anyhow::Result<()> {
     match check_design(rules.numbers(), design.as_slice(), tableau.as_mut_slice()) {
         Ok(()) => println!(rt; "a design")?,
         Err(CheckFailure::Refused(refusal)) => println!(rt; "{refusal}")?,
-        Err(CheckFailure::ShortTableau(_)) => return Err(anyhow!("too many parts")),
+        Err(CheckFailure::ShortTableau(_)) => return Err(anyhow!("{:?}", "too many parts")),
     }
     Ok(())
 }
@@ -27,7 +27,8 @@ fn check(rt: &HostRuntime, set: &RuleSet, bytes: &[u8]) -> anyhow::Result<()> {
 fn run(rt: &HostRuntime) -> anyhow::Result<()> {
     if env::args(rt)?.count() > 1 {
         return Err(anyhow!(
-            "usage: design_check < DESIGN (rules as for designer; then a byte for the parts; a part: set, byte for its rules, rules)"
+            "{:?}",
+            "usage: design_check < DESIGN (rules as for designer; then a byte for parts; a part: set, byte for its rules, rules)"
         ));
     }
     let mut bytes = Vec::new(rt.alloc());

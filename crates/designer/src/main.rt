@@ -37,6 +37,7 @@ fn show(rt: &HostRuntime, set: &RuleSet) -> io::Result<()> {
 fn run(rt: &HostRuntime) -> anyhow::Result<()> {
     if env::args(rt)?.count() > 1 {
         return Err(anyhow!(
+            "{:?}",
             "usage: designer < RULES (a byte for the columns, a byte for the count of rules, four bytes a rule)"
         ));
     }

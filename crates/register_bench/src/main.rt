@@ -50,7 +50,7 @@ fn main(rt: HostRuntime) -> anyhow::Result<()> {
     let mut input = Vec::new(rt.alloc());
     rt.stdin().read_to_end(&mut input)?;
     let [a, b, c, d, bytes @ ..] = input.as_slice() else {
-        return Err(anyhow!("no day"));
+        return Err(anyhow!("{:?}", "no day"));
     };
     let room = *a as usize + 256 * *b as usize + 65536 * *c as usize + 16777216 * *d as usize;
     match rules_from_bytes(bytes) {

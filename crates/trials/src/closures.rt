@@ -53,7 +53,7 @@ pub fn run(rt: &HostRuntime) -> anyhow::Result<()> {
         let rules = random_rules(rt.alloc(), &mut random, SIZE)?;
         let lent = rules.lent(rt.alloc())?;
         let Ok(set) = read_rules(lent.as_slice()) else {
-            return Err(anyhow!("random rules are refused"));
+            return Err(anyhow!("{:?}", "random rules are refused"));
         };
         if let Some(start) = first_difference(&rules, &set) {
             return show(rt, &rules, &set, start);

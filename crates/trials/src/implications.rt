@@ -143,7 +143,7 @@ pub fn run(rt: &HostRuntime) -> anyhow::Result<()> {
         let rules = random_rules(rt.alloc(), &mut random, SIZE)?;
         let lent = rules.lent(rt.alloc())?;
         let Ok(set) = read_rules(lent.as_slice()) else {
-            return Err(anyhow!("random rules are refused"));
+            return Err(anyhow!("{:?}", "random rules are refused"));
         };
         let Some(after) = all_asked(rt, &rules, &set, tally)? else {
             return Ok(());

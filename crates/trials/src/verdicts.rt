@@ -85,7 +85,7 @@ fn agrees(
 ) -> anyhow::Result<bool> {
     let rules = random_rules(rt.alloc(), random, SIZE)?;
     let Some(tables) = worlds.get((rules.columns as usize).saturating_sub(1)) else {
-        return Err(anyhow!("no tables of so many columns"));
+        return Err(anyhow!("{:?}", "no tables of so many columns"));
     };
     let obeying = Obeying::of(rt.alloc(), tables, &rules)?;
     for _ in 0..SPLITTINGS {

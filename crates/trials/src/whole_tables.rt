@@ -86,7 +86,7 @@ fn in_parts(
         Err(TripFailure::Laid(refused)) => {
             let left = match join(heap, &register) {
                 Ok(left) => left,
-                Err(_) => return Err(anyhow!("the parts could not be joined")),
+                Err(_) => return Err(anyhow!("{:?}", "the parts could not be joined")),
             };
             Ok(Outcome {
                 number: refused.refusal.number(),
@@ -94,7 +94,7 @@ fn in_parts(
                 table: cut(heap, left.as_slice())?,
             })
         }
-        Err(TripFailure::NoMemory) => Err(anyhow!("no memory to join the parts")),
+        Err(TripFailure::NoMemory) => Err(anyhow!("{:?}", "no memory to join the parts")),
     }
 }
 
