@@ -1,5 +1,5 @@
 -- Least sets of rules.
-use Rattle.std.specs.Prelude.{◌≡◌, ℕ, ◌<◌, Bool, not, ◌&&◌, List, [], ◌∷◌, ◌++◌, length, get_or, nat_eq, slice_index_or}
+use Rattle.std.specs.Prelude.{◌≡◌, ℕ, ◌<◌, Bool, not, ◌&&◌, List, [], ◌∷◌, ◌++◌, length, slice_index_or, nat_eq}
 use Rattle.columns.specs.Cols.{Cols}
 use Rattle.dependencies.specs.Tables.{Dep, Implied, no_dep}
 use Rattle.columns.specs.Every.{every, every_split}
@@ -8,10 +8,10 @@ use Rattle.dependencies.specs.Closure.{does_fix, do_follow}
 -- A least set of rules: it says the same, each of its rules has one right column, and nothing can be left out of it, no rule and no left column.
 pub record Least (ds ms : List Dep) : Type 0 where
   pub same : (d : Dep) → (Implied ds d → Implied ms d) × (Implied ms d → Implied ds d)
-  pub single : (i : ℕ) → i < length ms → length (get_or ms i no_dep).right ≡ 1
+  pub single : (i : ℕ) → i < length ms → length (slice_index_or ms i no_dep).right ≡ 1
   pub no_rule : (i : ℕ) (xs ys : List Dep) → ms ≡ xs ++ slice_index_or ms i no_dep ∷ ys → i ≡ length xs → i < length ms → Implied (xs ++ ys) (slice_index_or ms i no_dep) → ⊥
-  pub no_column : (i : ℕ) (xs ys : Cols) (c : ℕ) → i < length ms → (get_or ms i no_dep).left ≡ xs ++ c ∷ ys
-      → Implied ms (record { left = xs ++ ys; right = (get_or ms i no_dep).right }) → ⊥
+  pub no_column : (i : ℕ) (xs ys : Cols) (c : ℕ) → i < length ms → (slice_index_or ms i no_dep).left ≡ xs ++ c ∷ ys
+      → Implied ms (record { left = xs ++ ys; right = (slice_index_or ms i no_dep).right }) → ⊥
 
 -- For any rules there is a least set that says the same.
 unfoldable pub LeastExists : Type 0

@@ -1,4 +1,4 @@
--- Which rules follow is known from the two_row tables. Assumes nothing.
+-- Which rules follow is known from the two-row tables. Assumes nothing.
 use Rattle.std.proofs.Common.{[], ◌∷◌, refl, inl, inr}
 use Rattle.dependencies.specs.Tables.{Implied}
 use Rattle.dependencies.specs.Theorems.{TwoRowsSuffice}

@@ -1,5 +1,5 @@
 -- Tables, rules about their columns, and what follows from rules.
-use Rattle.std.specs.Prelude.{◌≡◌, ℕ, zero, suc, ◌<◌, Bool, true, ◌&&◌, List, [], ◌∷◌, length, get_or, ◌==◌, slice_index, slice_index_or}
+use Rattle.std.specs.Prelude.{◌≡◌, ℕ, zero, suc, ◌<◌, Bool, true, ◌&&◌, List, [], ◌∷◌, length, slice_index_or, ◌==◌, slice_index}
 use Rattle.columns.specs.Cols.{pick, Cols, has, all_in, columns}
 
 -- a row is its cells, from the first column on
@@ -38,7 +38,7 @@ fixing x c = record { left = x; right = c ∷ [] }
 -- the rules name columns of a table of n only
 unfoldable pub Proper : ℕ → List Dep → Type 0
 Proper n ds =
-    (i : ℕ) → i < length ds → (all_in (get_or ds i no_dep).left (columns 0 n) ≡ true) × (all_in (get_or ds i no_dep).right (columns 0 n) ≡ true)
+    (i : ℕ) → i < length ds → (all_in (slice_index_or ds i no_dep).left (columns 0 n) ≡ true) × (all_in (slice_index_or ds i no_dep).right (columns 0 n) ≡ true)
 
 -- the same as a test
 abbrev pub is_proper : ℕ → List Dep → Bool

@@ -11,7 +11,7 @@ ClosureExact =
     (all_in d.right (closure ds d.left) ≡ true → Implied ds d)
     × (all_in d.right (closure ds d.left) ≡ false → (r s : Row) × ObeysAll (r ∷ s ∷ []) ds × (Obeys (r ∷ s ∷ []) d → ⊥))
 
--- Which rules follow is known from the two_row tables.
+-- Which rules follow is known from the two-row tables.
 unfoldable pub TwoRowsSuffice : Type 0
 TwoRowsSuffice = (ds : List Dep) (d : Dep) → ((r s : Row) → ObeysAll (r ∷ s ∷ []) ds → Obeys (r ∷ s ∷ []) d) → Implied ds d
 

@@ -17,14 +17,14 @@ unfolding rules_in
 rules_length n zero xs = refl
 rules_length n (suc k) xs = ap suc (rules_length n k (drop 2 xs))
 
-getD_rules : (n k : ℕ) (xs : List ℕ) (q : ℕ) → q < k → get_or (rules_in n k xs) q no_dep ≡ rule_at n xs q
+get_or_rules : (n k : ℕ) (xs : List ℕ) (q : ℕ) → q < k → get_or (rules_in n k xs) q no_dep ≡ rule_at n xs q
 unfolding rules_in
-getD_rules n zero xs q l = absurd (omega arith)
-getD_rules n (suc k) xs zero l = refl
-getD_rules n (suc k) xs (suc q) l =
+get_or_rules n zero xs q l = absurd (omega arith)
+get_or_rules n (suc k) xs zero l = refl
+get_or_rules n (suc k) xs (suc q) l =
     let a : get_or (drop 2 xs) (2 * q) 0 ≡ get_or xs (2 * suc q) 0 = get_or-drop 2 xs (2 * q) 0 ∙ ap (λ (i : ℕ). get_or xs i 0) (omega arith) in
     let b : get_or (drop 2 xs) (2 * q + 1) 0 ≡ get_or xs (2 * suc q + 1) 0 = get_or-drop 2 xs (2 * q + 1) 0 ∙ ap (λ (i : ℕ). get_or xs i 0) (omega arith) in
-    getD_rules n k (drop 2 xs) q (omega arith) ∙ ap₂ (λ (u v : ℕ). record { left = set_in 0 n u; right = set_in 0 n v }) a b
+    get_or_rules n k (drop 2 xs) q (omega arith) ∙ ap₂ (λ (u v : ℕ). record { left = set_in 0 n u; right = set_in 0 n v }) a b
 
 -- the rule of one place
 module _ (n k : ℕ) (xs : List ℕ) (q : ℕ) (l : q < k) (left right : Cols) (el : left ≡ set_in 0 n (get_or xs (2 + 2 * q) 0)) (er : right ≡ set_in 0 n (get_or xs (3 + 2 * q) 0)) (r : Row) (t : List Row) where
@@ -38,7 +38,7 @@ module _ (n k : ℕ) (xs : List ℕ) (q : ℕ) (l : q < k) (left right : Cols) (
   rule_here =
       let a : get_or (drop 2 xs) (2 * q) 0 ≡ get_or xs (2 + 2 * q) 0 = get_or-drop 2 xs (2 * q) 0 in
       let b : get_or (drop 2 xs) (2 * q + 1) 0 ≡ get_or xs (3 + 2 * q) 0 = get_or-drop 2 xs (2 * q + 1) 0 ∙ ap (λ (i : ℕ). get_or xs i 0) (omega arith) in
-      getD_rules n k (drop 2 xs) q l ∙ ap₂ (λ (u v : Cols). record { left = u; right = v }) (ap (λ (m : ℕ). set_in 0 n m) a ∙ sym el) (ap (λ (m : ℕ). set_in 0 n m) b ∙ sym er)
+      get_or_rules n k (drop 2 xs) q l ∙ ap₂ (λ (u v : Cols). record { left = u; right = v }) (ap (λ (m : ℕ). set_in 0 n m) a ∙ sym el) (ap (λ (m : ℕ). set_in 0 n m) b ∙ sym er)
 
   rule_turn : broken_in q (drop q RS) r t ≡ pick (rule_with rule r t) (broken_in (q + 1) (drop (q + 1) RS) r t) (Some q)
   unfolding broken_in

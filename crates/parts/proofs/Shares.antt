@@ -70,16 +70,16 @@ length_more [] hs r m = refl
 length_more (x ∷ ps) [] r m = absurd (omega arith)
 length_more (x ∷ ps) (h ∷ hs) r m = ap suc (length_more ps hs r (omega arith))
 
-getD_more : (ps : List Part) (hs : List (List Held)) (r : Row) (p : ℕ) → p < length ps → length hs ≡ length ps
+get_or_more : (ps : List Part) (hs : List (List Held)) (r : Row) (p : ℕ) → p < length ps → length hs ≡ length ps
     → get_or (all_more ps hs r) p [] ≡ one_more (get_or ps p no_part).cols r (get_or hs p [])
 unfolding all_more
-getD_more [] hs r p l m = absurd (omega arith)
-getD_more (x ∷ ps) [] r p l m = absurd (omega arith)
-getD_more (x ∷ ps) (h ∷ hs) r zero l m = refl
-getD_more (x ∷ ps) (h ∷ hs) r (suc p) l m = getD_more ps hs r p (omega arith) (omega arith)
+get_or_more [] hs r p l m = absurd (omega arith)
+get_or_more (x ∷ ps) [] r p l m = absurd (omega arith)
+get_or_more (x ∷ ps) (h ∷ hs) r zero l m = refl
+get_or_more (x ∷ ps) (h ∷ hs) r (suc p) l m = get_or_more ps hs r p (omega arith) (omega arith)
 
 pub more_apart : Apart all_more one_more
-more_apart = record { lists = length_more; list = getD_more }
+more_apart = record { lists = length_more; list = get_or_more }
 
 length_less : (ps : List Part) (hs : List (List Held)) (r : Row) → length hs ≡ length ps → length (all_less ps hs r) ≡ length ps
 unfolding all_less
@@ -87,16 +87,16 @@ length_less [] hs r m = refl
 length_less (x ∷ ps) [] r m = absurd (omega arith)
 length_less (x ∷ ps) (h ∷ hs) r m = ap suc (length_less ps hs r (omega arith))
 
-getD_less : (ps : List Part) (hs : List (List Held)) (r : Row) (p : ℕ) → p < length ps → length hs ≡ length ps
+get_or_less : (ps : List Part) (hs : List (List Held)) (r : Row) (p : ℕ) → p < length ps → length hs ≡ length ps
     → get_or (all_less ps hs r) p [] ≡ one_less (get_or ps p no_part).cols r (get_or hs p [])
 unfolding all_less
-getD_less [] hs r p l m = absurd (omega arith)
-getD_less (x ∷ ps) [] r p l m = absurd (omega arith)
-getD_less (x ∷ ps) (h ∷ hs) r zero l m = refl
-getD_less (x ∷ ps) (h ∷ hs) r (suc p) l m = getD_less ps hs r p (omega arith) (omega arith)
+get_or_less [] hs r p l m = absurd (omega arith)
+get_or_less (x ∷ ps) [] r p l m = absurd (omega arith)
+get_or_less (x ∷ ps) (h ∷ hs) r zero l m = refl
+get_or_less (x ∷ ps) (h ∷ hs) r (suc p) l m = get_or_less ps hs r p (omega arith) (omega arith)
 
 pub less_apart : Apart all_less one_less
-less_apart = record { lists = length_less; list = getD_less }
+less_apart = record { lists = length_less; list = get_or_less }
 
 -- one share more is written; W says what is to hold of each
 module _ (W : ℕ → List ℕ → Type 0) (xs ys e : List ℕ) (p s : ℕ) (fits : p * s + s ≤ length xs)

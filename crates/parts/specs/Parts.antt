@@ -1,5 +1,5 @@
 -- The parts of a register as others read them.
-use Rattle.std.specs.Prelude.{◌≡◌, ℕ, ◌-◌, true, List, [], get_or, drop, slice_index, slice_index_or}
+use Rattle.std.specs.Prelude.{◌≡◌, ℕ, ◌-◌, true, List, [], slice_index_or, drop, slice_index}
 use Rattle.columns.specs.Sets.{cols}
 use Rattle.dependencies.specs.Told.{Told, done, refused}
 use Rattle.schema.specs.Design.{no_part}
@@ -23,7 +23,7 @@ IfOpened (refused k p) P Q = Q
 
 -- the part of this place: its columns and what it holds in the cells; past the last part no column and nothing
 pub record PartAt (n : ℕ) (d g : List ℕ) (p : ℕ) (h : HeldPart) : Type 0 where
-  pub columns : cols h.owned ≡ (get_or (design_in n d) p no_part).cols
+  pub columns : cols h.owned ≡ (slice_index_or (design_in n d) p no_part).cols
   pub holds : held_by h ≡ slice_index_or (held_of n d g) p []
 
 -- a part without columns that holds nothing
