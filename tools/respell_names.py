@@ -1,6 +1,7 @@
 #!/usr/bin/env python3
 """Brings the names of specs/ and proofs/ to today's spelling, once, after /opt/rattle/port/port.py: facts and types in camel case, all else in
 snake case, and a test of a fact by what it tells and no question mark. Functions, strings and the names of goals stay as they are.
+In specs/ the library's two names for an element of a list or a default, get_or and slice_index_or, become one.
 
 usage: tools/respell_names.py [FOLDER]     rewrites the .antt and .rt files of FOLDER/crates in place; says what it left
 """
@@ -1571,6 +1572,16 @@ def turned(text, path):
     return "".join(out) + text[at:]
 
 
+def imported(m):
+    names = ["slice_index_or" if n.strip() == "get_or" else n.strip() for n in m.group(2).split(",")]
+    return m.group(1) + "{" + ", ".join(dict.fromkeys(names)) + "}"
+
+
+def with_one_word(text):
+    text = re.sub(r"(use Rattle\.std\.specs\.Prelude\.)\{([^}]*)\}", imported, text)
+    return re.sub(r"(?<![\w.-])get_or(?![\w-])", "slice_index_or", text)
+
+
 def main():
     top = sys.argv[1] if len(sys.argv) > 1 else "."
     for path in sorted(glob.glob(os.path.join(top, "crates/*/*/**/*"), recursive=True)):
@@ -1579,6 +1590,8 @@ def main():
         with open(path, encoding="utf-8") as f:
             text = f.read()
         new = turned(text, path)
+        if "/specs/" in path and "get_or" in new:
+            new = with_one_word(new)
         if new != text:
             with open(path, "w", encoding="utf-8") as f:
                 f.write(new)
