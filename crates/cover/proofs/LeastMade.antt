@@ -18,7 +18,8 @@ use Rattle.cover.specs.Ordered.{Part, Narrowed, singles}
 use Rattle.cover.specs.Trimmed.{Trimmed}
 use Rattle.cover.specs.Fine.{Fine, Fines, AllSplit}
 use Rattle.cover.proofs.Orders.{narrowed_part, part_deps, part_sub, part_short}
-use Rattle.cover.specs.RuleLists.{in_deps, deps_in, deps_split}
+use Rattle.cover.specs.RuleLists.{in_deps, deps_in}
+use Rattle.cover.proofs.RuleLists.{deps_split}
 
 abbrev pub RedundantRule : List Rule → Rule → Type 0
 RedundantRule others rule = Implied (deps others) (dep rule)

@@ -7,5 +7,6 @@ pub mod Orders
 pub mod Narrow
 pub mod ProperRules
 pub mod Queues
+pub mod RuleLists
 pub mod Splitting
 pub mod Written

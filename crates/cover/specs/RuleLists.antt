@@ -1,6 +1,6 @@
--- Lists of rules as the code has them, and the rules that they mean.
-use Rattle.std.specs.Prelude.{◌≡◌, ℕ, List, [], ◌∷◌, ◌++◌, refl}
-use Rattle.std.proofs.Common.{ap, subst, ◌∙◌, inl, inr, arith}
+-- Lists of rules as the code has them, and the rules that they mean: what the law of `Redundancy` for rules rests on.
+use Rattle.std.specs.Prelude.{◌≡◌, List, [], ◌∷◌, refl}
+use Rattle.std.proofs.Common.{ap, subst, inl, inr}
 use Rattle.columns.specs.Members.{In}
 use Rattle.dependencies.specs.Tables.{Dep, Implied}
 use Rattle.dependencies.specs.Rules.{dep, deps}
@@ -17,18 +17,6 @@ pub deps_in : (xs : List Rule) (m : Dep) → In m (deps xs) → (x : Rule) × In
 unfolding deps
 deps_in [] m i = absurd i
 deps_in (y ∷ xs) m i = elim i [ inl e ↦ (y, inl refl, e) | inr j ↦ let r = deps_in xs m j in (r.0, inr r.1, r.2) ]
-
--- where a meant rule stands, there stands a rule that means it
-pub deps_split : (xs : List Rule) (us vs : List Dep) (m : Dep) → deps xs ≡ us ++ m ∷ vs
-    → (fore aft : List Rule) × (x : Rule) × (xs ≡ fore ++ x ∷ aft) × (dep x ≡ m) × (deps (fore ++ aft) ≡ us ++ vs)
-unfolding deps
-deps_split [] [] vs m e = absurd (let z : ◌≡◌ {A = ℕ} 0 1 = cc in omega arith)
-deps_split [] (u ∷ us) vs m e = absurd (let z : ◌≡◌ {A = ℕ} 0 1 = cc in omega arith)
-deps_split (y ∷ xs) [] vs m e = ([], xs, y, refl, (cc), (cc))
-deps_split (y ∷ xs) (u ∷ us) vs m e =
-    let q : dep y ≡ u = cc in
-    let r = deps_split xs us vs m (cc) in
-    (y ∷ r.0, r.1, r.2, ap (λ v. y ∷ v) r.3, r.4, ap (λ v. dep y ∷ v) r.5 ∙ ap (λ v. v ∷ (us ++ vs)) q)
 
 -- what follows is redundant
 pub follow_laws : RedundancyLaws {A = Rule} (λ others rule. Implied (deps others) (dep rule))

@@ -8,12 +8,12 @@ use std::test::Fail;
 fn gives(rt: &impl Abort, rules: &[u64], answer: &[u64]) -> Result<(), Fail> {
     let mut row = [7; 2100];
     let count = least_set_for(rules, &mut row)?;
-    assert_eq!(rt; 1 + 2 * count as usize, answer.len());
+    assert_eq!(rt; 1 + 2 * count as usize, answer.len(), "of {rules:?}");
     for (i, number) in row.iter().enumerate() {
         if i < answer.len() {
-            assert_eq!(rt; *number, answer[i]);
+            assert_eq!(rt; *number, answer[i], "of {rules:?}");
         } else {
-            assert_eq!(rt; *number, 7);
+            assert_eq!(rt; *number, 7, "of {rules:?}");
         }
     }
     Ok(())

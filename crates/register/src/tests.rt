@@ -140,7 +140,7 @@ fn day_as_bytes(rt: HostRuntime) {
     let mut register = Register::over(&design, &mut cells);
     match register.keep_day_from_bytes(&BYTES, &mut deeds, &mut answers) {
         Ok(answered) => assert_eq!(rt; answered, 2),
-        Err(_) => assert!(rt; false),
+        Err(_) => assert!(rt; false, "the day was refused"),
     }
     assert!(rt; deeds == [0, 1, 258, 0, 1, 259, 5]);
     assert!(rt; answers == [0, 0, 9, 0, 5]);
@@ -150,8 +150,7 @@ fn day_as_bytes(rt: HostRuntime) {
 #[test]
 fn rest_of_a_day(rt: HostRuntime) -> Result<(), Fail> {
     let Some(width) = Width::new(2) else {
-        assert!(rt; false);
-        return Ok(());
+        return Err(Fail::new("two columns"));
     };
     let day = behind_rules(&BYTES);
     assert!(rt; day_rest(day, width, 0) == DayRest::Unanswered);

@@ -9,12 +9,12 @@ use std::test::Fail;
 // In a row of sevens the answer stands in front, and behind it there are still sevens.
 fn gives(rt: &impl Abort, rules: &[u64], parts: u64, answer: &[u64]) -> Result<(), Fail> {
     let mut row = [7; 2100];
-    assert_eq!(rt; design_for(rules, &mut row), Ok(parts));
+    assert_eq!(rt; design_for(rules, &mut row), Ok(parts), "of {rules:?}");
     for (i, number) in row.iter().enumerate() {
         if i < answer.len() {
-            assert_eq!(rt; *number, answer[i]);
+            assert_eq!(rt; *number, answer[i], "of {rules:?}");
         } else {
-            assert_eq!(rt; *number, 7);
+            assert_eq!(rt; *number, 7, "of {rules:?}");
         }
     }
     Ok(())
