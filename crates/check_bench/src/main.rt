@@ -24,31 +24,30 @@ const THIRD: u64 = 0x0f00;
 
 const LAST: u64 = 0xf000;
 
-// Column c fixes c + 1, and besides c + 5, around the circle.
-fn circles(heap: Global) -> Result<Vec<u64>, AllocError> {
+// Rules around a circle of 16 columns: the shape, moved up by c, fixes the column that lies so many steps behind c.
+#[derive(Clone, Copy)]
+struct Around {
+    shape: u64,
+    steps: u64,
+}
+
+// A table of 32 rules around the circle.
+fn circle(heap: Global, around: [Around; 2]) -> Result<Vec<u64>, AllocError> {
     let mut rules = Vec::new(heap);
     rules.extend_from_slice(&[16, 32])?;
-    for c in 0..16u64 {
-        rules.extend_from_slice(&[1 << c, 1 << ((c + 1) % 16)])?;
-    }
-    for c in 0..16u64 {
-        rules.extend_from_slice(&[1 << c, 1 << ((c + 5) % 16)])?;
+    for Around { shape, steps } in &around {
+        for c in 0..16u64 {
+            rules.extend_from_slice(&[(*shape << c) & 0xffff, 1 << (c.wrapping_add(*steps) % 16)])?;
+        }
     }
     Ok(rules)
 }
 
+// Column c fixes c + 1, and besides c + 5, around the circle.
+const CIRCLES: [Around; 2] = [Around { shape: 1, steps: 1 }, Around { shape: 1, steps: 5 }];
+
 // Two columns side by side fix a third, and so do two with one between them.
-fn mixed(heap: Global) -> Result<Vec<u64>, AllocError> {
-    let mut rules = Vec::new(heap);
-    rules.extend_from_slice(&[16, 32])?;
-    for c in 0..16u64 {
-        rules.extend_from_slice(&[(3 << c) & 0xffff, 1 << ((c + 7) % 16)])?;
-    }
-    for c in 0..16u64 {
-        rules.extend_from_slice(&[(5 << c) & 0xffff, 1 << ((c + 3) % 16)])?;
-    }
-    Ok(rules)
-}
+const MIXED: [Around; 2] = [Around { shape: 3, steps: 7 }, Around { shape: 5, steps: 3 }];
 
 // A table with the design that is made for it.
 fn made(heap: Global, rules: Vec<u64>) -> Result<Question, AllocError> {
@@ -134,8 +133,8 @@ fn eights(heap: Global, parts: u64) -> Result<Question, AllocError> {
 // The questions in the order of their letters.
 fn questions(heap: Global) -> Result<Vec<Question>, AllocError> {
     let mut all = Vec::new(heap);
-    all.push(made(heap, circles(heap)?)?)?;
-    all.push(made(heap, mixed(heap)?)?)?;
+    all.push(made(heap, circle(heap, CIRCLES)?)?)?;
+    all.push(made(heap, circle(heap, MIXED)?)?)?;
     all.push(eights(heap, 60)?)?;
     all.push(eights(heap, 125)?)?;
     all.push(eights(heap, 250)?)?;
@@ -154,13 +153,9 @@ fn place_of(letter: u8) -> usize {
     }
 }
 
-// 0 for a design, else the number and the place of the refusal in one.
-fn tested(question: &Question, tableau: &mut [[u64; 16]]) -> u64 {
-    match check_design(
-        question.rules.as_slice(),
-        question.design.as_slice(),
-        tableau,
-    ) {
+// A verdict in the mix: 0 for a design, else the number and the place of the refusal in one.
+fn code(verdict: Result<(), CheckFailure>) -> u64 {
+    match verdict {
         Ok(()) => 0,
         Err(CheckFailure::Refused(refusal)) => {
             refusal
@@ -183,13 +178,14 @@ fn run(rt: &HostRuntime) -> anyhow::Result<()> {
         let Some(question) = all.as_slice().get(place_of(*letter)) else {
             continue;
         };
-        let told = tested(question, tableau.as_mut_slice());
-        if told == 0 {
+        let rules = question.rules.as_slice();
+        let verdict = check_design(rules, question.design.as_slice(), tableau.as_mut_slice());
+        if verdict.is_ok() {
             designs = designs.wrapping_add(1);
         }
         mix = mix
             .wrapping_mul(31)
-            .wrapping_add(told)
+            .wrapping_add(code(verdict))
             .wrapping_add(*letter as u64);
     }
     println!(rt; "{designs} are designs, mixed to {mix}")?;

@@ -1,4 +1,5 @@
 pub mod Columns
+pub mod Comparing
 pub mod Compared
 pub mod Everyone
 pub mod InOrder

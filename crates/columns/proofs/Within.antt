@@ -1,7 +1,6 @@
 -- A set of columns as a number: which columns it has, by its binary digits.
 use Rattle.std.proofs.Common.{◌≡◌, ℕ, zero, suc, ◌+◌, ◌-◌, ◌*◌, ◌/◌, ◌%◌, ◌^◌, ◌<◌, ◌≤◌, Bool, true, false, not, ◌&&◌, ◌||◌, eqb, [], ◌∷◌, sym, refl, ap, ◌∙◌, inl, inr, zero-add, zero-mul, div-one, arith}
 use native.Mathlib.Nat.{two-pow-succ, lt-div-mul-add, div-eq_of_lt}
-use lib.Dec.{eqb-zero-suc, eqb-suc-suc}
 use lib.Bits.{bit_and, bit_or, and_mod, or_mod, and_shr, or_shr, and_mask, and_le_l}
 use Rattle.std.proofs.lemmas.Bool.{eq-eqb, ne_eqb, eqb-true, or_left, both_ways, cases_lt, and_parts}
 use Rattle.std.proofs.lemmas.Nat.{shr-shr, mod_below, pow_pos}
@@ -91,17 +90,6 @@ within_past zero j m h = refl
 within_past (suc k) zero m h = absurd (omega arith)
 within_past (suc k) (suc j) m h = within_past k j (m / 2) (omega arith)
 
--- one column alone
-pub within_one : (k j c : ℕ) → c < k → within k j (2 ^ c) ≡ eqb c j
-unfolding within
-within_one zero j c h = absurd (omega arith)
-within_one (suc k) zero zero h = refl
-within_one (suc k) (suc j) zero h = within_none k j ∙ sym (eqb-zero-suc j)
-within_one (suc k) zero (suc c) h = ne_eqb (2 ^ suc c % 2) 1 (λ e. omega (arith, two-pow-succ c)) ∙ sym (ne_eqb (suc c) 0 (λ e. omega arith))
-within_one (suc k) (suc j) (suc c) h =
-    let e : 2 ^ suc c / 2 ≡ 2 ^ c = omega (arith, two-pow-succ c) in
-    ap (λ (x : ℕ). within k j x) e ∙ within_one k j c (omega arith) ∙ sym (eqb-suc-suc c j)
-
 -- a digit by a shift
 pub within_shift : (k j m : ℕ) → j < k → within k j m ≡ eqb (m / 2 ^ j % 2) 1
 unfolding within
@@ -142,9 +130,6 @@ has_and k a b j = simp has_set (within_and k j a b)
 
 pub has_but : (k a b j : ℕ) → b < 2 ^ k → has (set_in 0 k (bit_and a (2 ^ k - 1 - b))) j ≡ (has (set_in 0 k a) j && not (has (set_in 0 k b) j))
 has_but k a b j h = simp has_set (within_and k j a (2 ^ k - 1 - b) ∙ within_but k j a b h)
-
-pub has_one : (k c j : ℕ) → c < k → has (set_in 0 k (2 ^ c)) j ≡ eqb c j
-has_one k c j h = has_set k (2 ^ c) j ∙ within_one k j c h
 
 pub has_shift : (k m j : ℕ) → j < k → has (set_in 0 k m) j ≡ eqb (bit_and (m / 2 ^ j) 1) 1
 has_shift k m j h = has_set k m j ∙ within_shift k j m h ∙ ap (λ (x : ℕ). eqb x 1) (sym (and_mask (m / 2 ^ j) 1))

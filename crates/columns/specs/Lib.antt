@@ -4,4 +4,5 @@ pub mod Members
 pub mod Order
 pub mod Sets
 pub mod Shown
+pub mod Sorted
 pub mod Theorems

@@ -57,9 +57,7 @@ impl ColumnSet {
     pub fn with(self, c: Column) -> Self
         ensures { (d : ℕ) → has (cols result) d ≡ (has (cols self) d || c.index == d) }
     {
-        ColumnSet {
-            bits: self.bits | 1 << c.index,
-        }
+        self.union(Self::single(c))
     }
 
     // The set without a column.

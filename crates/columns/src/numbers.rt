@@ -28,8 +28,7 @@ impl fmt::Display for Column {
     ghost output = { λ c. Some (decimal c.index) };
 
     fn fmt<W: fmt::Write>(&self, f: &mut fmt::Formatter<W>) -> fmt::Result {
-        let index = self.index;
-        write!(f, "{index}")
+        write!(f, "{}", self.index)
     }
 }
 
@@ -38,15 +37,13 @@ impl Width {
     pub fn new(columns: u64) -> Option<Self>
         ensures { MatchOption result ((nat_le 1 columns && nat_le columns 16) ≡ false) (λ w. w.columns ≡ columns) }
     {
-        if columns < 1 {
-            return None;
+        if (1..=16).contains(&columns) {
+            Some(Width {
+                columns: columns as u32,
+            })
+        } else {
+            None
         }
-        if columns > 16 {
-            return None;
-        }
-        Some(Width {
-            columns: columns as u32,
-        })
     }
 
     pub fn columns(self) -> u32

@@ -1,59 +1,36 @@
 // Examples, and the edges: no columns, all 16, columns that are not there.
 use super::*;
+use std::cmp::Ordering;
 use std::test::Fail;
 
 // The set of a number, or the empty one.
 fn set(bits: u64) -> ColumnSet {
-    let Some(width) = Width::new(16) else {
-        return ColumnSet::empty();
-    };
-    ColumnSet::from_bits(bits, width).unwrap_or(ColumnSet::empty())
-}
-
-// The number of a column, or 99.
-fn index_of(c: Option<Column>) -> u32 {
-    match c {
-        Some(c) => c.index(),
-        None => 99,
-    }
-}
-
-fn width_of(w: Option<Width>) -> u32 {
-    match w {
-        Some(w) => w.columns(),
-        None => 99,
-    }
-}
-
-fn bits_of(s: Option<ColumnSet>) -> u64 {
-    match s {
-        Some(s) => s.bits(),
-        None => 99,
-    }
+    Width::new(16)
+        .and_then(|width| ColumnSet::from_bits(bits, width))
+        .unwrap_or(ColumnSet::empty())
 }
 
 #[test]
 fn numbers_in_and_out(rt: HostRuntime) {
-    assert_eq!(rt; width_of(Width::new(0)), 99);
-    assert_eq!(rt; width_of(Width::new(1)), 1);
-    assert_eq!(rt; width_of(Width::new(16)), 16);
-    assert_eq!(rt; width_of(Width::new(17)), 99);
-    assert_eq!(rt; index_of(Column::new(15)), 15);
-    assert_eq!(rt; index_of(Column::new(16)), 99);
+    assert_eq!(rt; Width::new(0).map(Width::columns), None);
+    assert_eq!(rt; Width::new(1).map(Width::columns), Some(1));
+    assert_eq!(rt; Width::new(16).map(Width::columns), Some(16));
+    assert_eq!(rt; Width::new(17).map(Width::columns), None);
+    assert_eq!(rt; Column::new(15).map(Column::index), Some(15));
+    assert_eq!(rt; Column::new(16).map(Column::index), None);
     assert_eq!(rt; ColumnSet::empty().bits(), 0);
 }
 
 #[test]
 fn sets_of_a_table(rt: HostRuntime) -> Result<(), Fail> {
-    let Some(six) = Width::new(6) else {
-        return Err(Fail::new("six columns"));
-    };
-    let Some(five) = Column::new(5) else {
-        return Err(Fail::new("column 5"));
-    };
+    let six = Width::new(6).ok_or_else(|| Fail::new("six columns"))?;
+    let five = Column::new(5).ok_or_else(|| Fail::new("column 5"))?;
     assert_eq!(rt; ColumnSet::all(six).bits(), 63);
-    assert_eq!(rt; bits_of(ColumnSet::from_bits(64, six)), 99);
-    assert_eq!(rt; bits_of(ColumnSet::from_bits(63, six)), 63);
+    assert_eq!(rt; ColumnSet::from_bits(64, six).map(ColumnSet::bits), None);
+    assert_eq!(rt;
+        ColumnSet::from_bits(63, six).map(ColumnSet::bits),
+        Some(63)
+    );
     assert_eq!(rt; ColumnSet::single(five).bits(), 32);
     assert!(rt; set(32).contains(five));
     assert!(rt; !set(31).contains(five));
@@ -80,16 +57,21 @@ fn in_order(rt: HostRuntime) {
     assert!(rt; set(3).precedes(set(5)));
     assert!(rt; set(5).precedes(set(2)));
     assert!(rt; !set(5).precedes(set(5)));
+    assert!(rt; set(1).cmp(&set(3)) == Ordering::Less);
+    assert!(rt; set(3).cmp(&set(1)) == Ordering::Greater);
+    assert!(rt; set(5).cmp(&set(5)) == Ordering::Equal);
+    assert!(rt; set(1).partial_cmp(&set(3)) == Some(Ordering::Less));
+    assert!(rt; set(2) > set(5));
 }
 
 #[test]
 fn walked_and_shown(rt: HostRuntime) -> Result<(), Fail> {
     let mut rest = set(32778);
-    assert_eq!(rt; index_of(rest.take_first()), 1);
-    assert_eq!(rt; index_of(rest.take_first()), 3);
+    assert_eq!(rt; rest.take_first().map(Column::index), Some(1));
+    assert_eq!(rt; rest.take_first().map(Column::index), Some(3));
     assert_eq!(rt; rest.bits(), 32768);
-    assert_eq!(rt; index_of(rest.take_first()), 15);
-    assert_eq!(rt; index_of(rest.take_first()), 99);
+    assert_eq!(rt; rest.take_first().map(Column::index), Some(15));
+    assert_eq!(rt; rest.take_first().map(Column::index), None);
     let text = set(32778).to_string(rt.alloc())?;
     assert!(rt; text.as_str() == "1 3 15");
     let none = set(0).to_string(rt.alloc())?;

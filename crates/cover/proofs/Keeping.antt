@@ -1,6 +1,6 @@
 -- To leave out of a list, from the front, what is redundant beside the others: what is needed goes to the end.
 use Rattle.std.proofs.Common.{◌≡◌, ℕ, ◌-◌, ◌<◌, ◌⊎◌, List, [], ◌∷◌, ◌++◌, length, sym, refl, ap, ◌∙◌, subst, inl, inr, append_assoc, arith}
-use Rattle.std.proofs.lemmas.List.{append-nil}
+use Rattle.std.proofs.lemmas.List.{append-nil, length-append}
 use Rattle.columns.specs.Members.{In, Sub}
 use Rattle.columns.proofs.Members.{in_left, in_right, in_either}
 use Rattle.columns.proofs.Shrink.{sub_front}
@@ -9,15 +9,15 @@ use Rattle.cover.specs.Trimmed.{RedundancyLaws, Trimming, Trimmed}
 use Rattle.cover.proofs.Orders.{part_all, part_through, part_but}
 
 no_split : {A : Type 0} (us vs : List A) (m : A) → [] ≡ us ++ m ∷ vs → ⊥
-no_split [] vs m e = let z : ◌≡◌ {A = ℕ} 0 1 = cc in omega arith
-no_split (u ∷ us) vs m e = let z : ◌≡◌ {A = ℕ} 0 1 = cc in omega arith
+no_split [] vs m e = cc
+no_split (u ∷ us) vs m e = cc
 
 -- a list with one more at its end, taken apart
 snoc_cases : {A : Type 0} (kept : List A) (x : A) (us : List A) (m : A) (vs : List A) → kept ++ x ∷ [] ≡ us ++ m ∷ vs
     → ((x ≡ m) × (kept ≡ us ++ vs)) ⊎ ((ws : List A) × (vs ≡ ws ++ x ∷ []) × (kept ≡ us ++ m ∷ ws))
 snoc_cases [] x [] m vs e = inl ((cc), (cc))
-snoc_cases [] x (u ∷ []) m vs e = absurd (let z : ◌≡◌ {A = ℕ} 0 1 = cc in omega arith)
-snoc_cases [] x (u ∷ w ∷ us) m vs e = absurd (let z : ◌≡◌ {A = ℕ} 0 1 = cc in omega arith)
+snoc_cases [] x (u ∷ []) m vs e = cc
+snoc_cases [] x (u ∷ w ∷ us) m vs e = cc
 snoc_cases (k ∷ kept) x [] m vs e =
     let p : kept ++ x ∷ [] ≡ vs = cc in
     let q : k ≡ m = cc in
@@ -138,10 +138,6 @@ module _ {A : Type 0} (redundant : List A → A → Type 0) (laws : RedundancyLa
   pub turning_end : (fs items : List A) (left : ℕ) → Turning fs items left → left ≡ 0 → Trimmed redundant fs items
   turning_end fs items left t h = none_left fs t.todo t.kept items t.is (t.long ∙ h) t.state
 
-  nothing_todo : (todo kept : List A) → 0 < length todo → [] ≡ todo ++ kept → ⊥
-  nothing_todo [] kept h e = omega arith
-  nothing_todo (t ∷ todo) kept h e = let z : ◌≡◌ {A = ℕ} 0 1 = cc in omega arith
-
   -- while some are left it is not empty
   pub turning_some : (fs items : List A) (left : ℕ) → Turning fs items left → 0 < left → items ≡ [] → ⊥
-  turning_some fs items left t h e = nothing_todo t.todo t.kept (omega (arith, t.long)) (sym e ∙ t.is)
+  turning_some fs items left t h e = omega (arith, t.long, ap length (sym e ∙ t.is), length-append t.todo t.kept)

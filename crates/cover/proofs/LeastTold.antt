@@ -1,5 +1,5 @@
 -- Rules that pass the test are a least set. Assumes nothing.
-use Rattle.std.proofs.Common.{◌≡◌, ℕ, Bool, true, not, ◌&&◌, eqb, List, [], ◌∷◌, ◌++◌, length, get_or, sym, ◌∙◌, subst, append_assoc, append-nil, arith}
+use Rattle.std.proofs.Common.{◌≡◌, Bool, true, not, ◌&&◌, eqb, List, [], ◌∷◌, ◌++◌, length, get_or, sym, ◌∙◌, subst, append_assoc, append-nil}
 use Rattle.std.proofs.lemmas.Bool.{true≢false, eqb-true, and_parts, not-true}
 use Rattle.dependencies.specs.Tables.{Dep, no_dep, Implied}
 use Rattle.dependencies.specs.Closure.{closure, does_fix, do_follow}
@@ -14,8 +14,8 @@ use Rattle.dependencies.proofs.Fixing.{follow_to}
 
 split_at : {A : Type 0} (pre xs : List A) (f : List A → A → List A → Bool) → every_split pre xs f ≡ true → (us vs : List A) (x : A) → xs ≡ us ++ x ∷ vs
     → f (pre ++ us) x vs ≡ true
-split_at pre [] f h [] vs x e = absurd (let z : ◌≡◌ {A = ℕ} 0 1 = cc in omega arith)
-split_at pre [] f h (u ∷ us) vs x e = absurd (let z : ◌≡◌ {A = ℕ} 0 1 = cc in omega arith)
+split_at pre [] f h [] vs x e = cc
+split_at pre [] f h (u ∷ us) vs x e = cc
 split_at pre (y ∷ ys) f h [] vs x e =
     let w = and_parts (f pre y ys) (every_split (pre ++ y ∷ []) ys f) h in
     let head : y ≡ x = cc in

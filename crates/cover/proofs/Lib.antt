@@ -1,4 +1,5 @@
 pub mod FineRules
+pub mod FewRules
 pub mod Keeping
 pub mod LeastMade
 pub mod LeastRules
@@ -6,7 +7,6 @@ pub mod LeastTold
 pub mod Orders
 pub mod Narrow
 pub mod ProperRules
-pub mod Queues
 pub mod RuleLists
 pub mod Splitting
 pub mod Written

@@ -1,6 +1,6 @@
 -- To leave out of a left side, column by column, what is not needed to fix a column.
-use Rattle.std.proofs.Common.{◌≡◌, ℕ, Bool, true, false, not, ◌&&◌, eqb, List, [], ◌∷◌, sym, refl, ◌∙◌, subst, inl, inr}
-use Rattle.std.proofs.lemmas.Bool.{true≢false, cases_Bool, cases_eq, and_parts, and_from, eq-eqb, ne_eqb, both_ways, not-true}
+use Rattle.std.proofs.Common.{◌≡◌, ℕ, true, false, not, ◌&&◌, eqb, List, [], ◌∷◌, sym, refl, ◌∙◌, subst, inl, inr}
+use Rattle.std.proofs.lemmas.Bool.{cases_Bool, cases_eq, and_parts, and_from, eq-eqb, ne_eqb, both_ways, not-true, not_from_false}
 use Rattle.columns.specs.Cols.{Cols, has}
 use Rattle.columns.specs.Members.{In, Sub}
 use Rattle.columns.proofs.Columns.{has_in, in_has, all_in_sub, sub_all_in, in_or_not}
@@ -15,18 +15,11 @@ pub record Narrow (ds : List Dep) (l : Cols) (b : ℕ) (todo s : Cols) : Type 0 
   pub fixes : has (closure ds s) b ≡ true
   pub need : (d : ℕ) → In d s → (In d todo → ⊥) → (j : Cols) → Sub j s → (In d j → ⊥) → has (closure ds j) b ≡ false
 
-pub narrow_start : (ds : List Dep) (l : Cols) (b : ℕ) → has (closure ds l) b ≡ true → Narrow ds l b l l
-narrow_start ds l b h = record { inside = λ c i. i; fixes = h; need = λ d i out. absurd (out i) }
-
 abbrev pub Without : Cols → ℕ → Cols → Type 0
 Without s c t = (d : ℕ) → has t d ≡ (has s d && not (eqb c d))
 
 without_sub : (s : Cols) (c : ℕ) (t : Cols) → Without s c t → Sub t s
 without_sub s c t f d i = has_in s d (and_parts (has s d) (not (eqb c d)) (sym (f d) ∙ in_has t d i)).0
-
-not_false : (b : Bool) → b ≡ false → not b ≡ true
-not_false true e = absurd (true≢false e)
-not_false false e = refl
 
 without_not : (s : Cols) (c : ℕ) (t : Cols) → Without s c t → In c t → ⊥
 without_not s c t f i =
@@ -34,7 +27,7 @@ without_not s c t f i =
     both_ways (eqb c c) (not-true (eqb c c) q) (eq-eqb c c refl)
 
 without_in : (s : Cols) (c : ℕ) (t : Cols) → Without s c t → (d : ℕ) → In d s → (c ≡ d → ⊥) → In d t
-without_in s c t f d i ne = has_in t d (f d ∙ and_from (has s d) (not (eqb c d)) (in_has s d i) (not_false (eqb c d) (ne_eqb c d ne)))
+without_in s c t f d i ne = has_in t d (f d ∙ and_from (has s d) (not (eqb c d)) (in_has s d i) (not_from_false (eqb c d) (ne_eqb c d ne)))
 
 module _ (ds : List Dep) (l : Cols) (b c : ℕ) (before todo s t : Cols) (e : before ≡ c ∷ todo) (n : Narrow ds l b before s) (f : Without s c t) where
   -- what is neither c nor still to do was not to do before

@@ -1,5 +1,5 @@
 -- Where a rule stands among those that a list means.
-use Rattle.std.proofs.Common.{◌≡◌, ℕ, List, [], ◌∷◌, ◌++◌, refl, ap, ◌∙◌, arith}
+use Rattle.std.proofs.Common.{◌≡◌, List, [], ◌∷◌, ◌++◌, refl, ap, ◌∙◌}
 use Rattle.dependencies.specs.Tables.{Dep}
 use Rattle.dependencies.specs.Rules.{dep, deps}
 use Rattle.dependencies.specs.declared.rules.Rule.{Rule}
@@ -8,8 +8,8 @@ use Rattle.dependencies.specs.declared.rules.Rule.{Rule}
 pub deps_split : (xs : List Rule) (us vs : List Dep) (m : Dep) → deps xs ≡ us ++ m ∷ vs
     → (fore aft : List Rule) × (x : Rule) × (xs ≡ fore ++ x ∷ aft) × (dep x ≡ m) × (deps (fore ++ aft) ≡ us ++ vs)
 unfolding deps
-deps_split [] [] vs m e = absurd (let z : ◌≡◌ {A = ℕ} 0 1 = cc in omega arith)
-deps_split [] (u ∷ us) vs m e = absurd (let z : ◌≡◌ {A = ℕ} 0 1 = cc in omega arith)
+deps_split [] [] vs m e = cc
+deps_split [] (u ∷ us) vs m e = cc
 deps_split (y ∷ xs) [] vs m e = ([], xs, y, refl, (cc), (cc))
 deps_split (y ∷ xs) (u ∷ us) vs m e =
     let q : dep y ≡ u = cc in

@@ -20,9 +20,6 @@ use Rattle.cover.specs.Fine.{Reduced, Fine, Splitting, Splits, AllSplit}
 pub right_fixed : (ds : List Dep) (d : Dep) (b : ℕ) → In d ds → In b d.right → has (closure ds d.left) b ≡ true
 right_fixed ds d b i h = in_has (closure ds d.left) b (implied_closure ds d (member_follows ds d i) b h)
 
-pub splitting_start : (ds : List Dep) (d : Dep) (fs : List Dep) → Splitting ds d d.right fs fs
-splitting_start ds d fs = record { inside = λ c i. i; fine = λ i f. f; more = λ e i. i; got = λ i c h out. absurd (out h); ordered = λ i xs n. (xs, n, refl) }
-
 module _ (ds : List Dep) (d : Dep) (b : ℕ) (before todo : Cols) (fs gs : List Dep) (l : Cols) (e : before ≡ b ∷ todo) (s : Splitting ds d before fs gs)
     (r : Rising l) (red : has (closure ds d.left) b ≡ true → Reduced ds d.left b l) where
   abbrev new : Dep
@@ -75,9 +72,6 @@ module _ (ds : List Dep) (d : Dep) (b : ℕ) (before todo : Cols) (fs gs : List 
             ];
         ordered = ordered_here;
       }
-
-pub splitting_end : (ds : List Dep) (d : Dep) (todo : Cols) (fs gs : List Dep) → todo ≡ [] → Splitting ds d todo fs gs → Splits ds d fs gs
-splitting_end ds d todo fs gs e s = subst (λ v. Splitting ds d v fs gs) e s
 
 pub all_start : (ds : List Dep) → AllSplit ds [] []
 all_start ds = record { fine = λ m i. absurd i; got = λ d i. absurd i; ordered = no_rule }

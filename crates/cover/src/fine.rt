@@ -1,11 +1,12 @@
 // Fine rules: one right column each, and no left column that it does not need.
-ghost use Rattle.std.specs.Prelude.{◌≡◌, ◌+◌, ◌*◌, ◌≤◌, true, [], ◌∷◌, length};
+ghost use Rattle.std.specs.Prelude.{◌≡◌, ◌+◌, ◌≤◌, true, [], ◌∷◌, length};
 ghost use Rattle.columns.specs.Cols.{has};
 ghost use Rattle.columns.specs.Sets.{cols};
 ghost use Rattle.dependencies.specs.Closure.{closure as closure_of};
 ghost use Rattle.dependencies.specs.Reads.{rules_of};
 ghost use Rattle.dependencies.specs.Rules.{dep, deps};
 ghost use Rattle.cover.specs.Fine.{Reduced, Splits, AllSplit};
+ghost use Rattle.cover.specs.Held.{most_rules};
 ghost use Rattle.cover.specs.Queued.{queued, spare};
 
 use crate::queue::Queue;
@@ -60,7 +61,7 @@ fn split_rule(rules: &[Rule], rule: Rule, queue: &mut Queue<Rule>)
 // Fine rules that say what the given rules say, in the order of these and of their right columns.
 pub(crate) fn split(set: &RuleSet) -> Queue<Rule>
     ensures says { AllSplit (deps (rules_of set.now)) (deps (rules_of set.now)) (deps (queued result)) }
-    ensures room { 1024 ≤ spare result + set.now.width.columns * set.now.count }
+    ensures room { 1024 ≤ spare result + most_rules set.now }
 {
     let nothing = ColumnSet::empty();
     let mut queue = Queue::new(Rule {

@@ -1,12 +1,9 @@
 // The type alone, so that the specs may name it.
-ghost use Rattle.std.specs.Prelude.{◌≤◌};
-
+use bounded::Bounded;
 use dependencies::Rule;
 
-// A least set of rules: the first `count` of the array.
+// A least set of rules.
 #[derive(Clone, Copy)]
 pub struct Cover {
-    pub(crate) rules: [Rule; 512],
-    pub(crate) count: usize,
-    ghost few: { count ≤ 512 },
+    pub(crate) rules: Bounded<Rule, 512>,
 }

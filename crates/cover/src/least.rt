@@ -1,15 +1,16 @@
 // A least set of rules.
-ghost use Rattle.std.specs.Prelude.{◌≡◌, ◌*◌, ◌≤◌, true, length};
+ghost use Rattle.std.specs.Prelude.{◌≡◌, ◌≤◌, true, length};
 ghost use Rattle.dependencies.specs.Reads.{rules_of};
 ghost use Rattle.dependencies.specs.Rules.{deps};
 ghost use Rattle.dependencies.specs.Tables.{is_proper};
-ghost use Rattle.cover.specs.Held.{cover_rules};
+ghost use Rattle.cover.specs.Held.{cover_rules, most_rules};
 ghost use Rattle.cover.specs.Least.{Least};
 ghost use Rattle.cover.specs.Ordered.{Narrowed, singles};
 
 use crate::fine::split;
 use crate::held::Cover;
 use crate::trimming::drop_redundant;
+use bounded::Bounded;
 use columns::ColumnSet;
 use dependencies::{Rule, RuleSet};
 
@@ -18,23 +19,7 @@ impl Cover {
     pub fn rules(&self) -> &[Rule]
         ensures { result.now ≡ cover_rules self.now }
     {
-        &self.rules[0..self.count]
-    }
-}
-
-fn cover_of(rules: &[Rule]) -> Cover
-    requires { length rules.now ≤ 512 }
-    ensures { cover_rules result ≡ rules.now }
-{
-    let nothing = ColumnSet::empty();
-    let mut held = [Rule {
-        left: nothing,
-        right: nothing,
-    }; 512];
-    held[..rules.len()].copy_from_slice(rules);
-    Cover {
-        rules: held,
-        count: rules.len(),
+        self.rules.as_slice()
     }
 }
 
@@ -43,9 +28,15 @@ pub fn least_cover(set: &RuleSet) -> Cover
     ensures least { Least (deps (rules_of set.now)) (deps (cover_rules result)) }
     ensures ordered { Narrowed (singles (deps (rules_of set.now))) (deps (cover_rules result)) }
     ensures proper { is_proper set.now.width.columns (deps (cover_rules result)) ≡ true }
-    ensures few { length (cover_rules result) ≤ set.now.width.columns * set.now.count }
+    ensures few { length (cover_rules result) ≤ most_rules set.now }
 {
     let mut queue = split(set);
     drop_redundant(&mut queue);
-    cover_of(queue.items())
+    let nothing = ColumnSet::empty();
+    let mut rules = Bounded::new(Rule {
+        left: nothing,
+        right: nothing,
+    });
+    rules.extend_from_slice(queue.items());
+    Cover { rules }
 }

@@ -4,6 +4,7 @@ ghost use Rattle.dependencies.specs.Lent.{put_list};
 ghost use Rattle.dependencies.specs.Reads.{rules_of};
 ghost use Rattle.dependencies.specs.Rules.{deps};
 ghost use Rattle.cover.specs.Answer.{coded, LeastRow, CoverTold};
+ghost use Rattle.cover.specs.Held.{most_rules};
 
 use crate::least::least_cover;
 use dependencies::{Refusal, Rule, RuleSet, read_rules};
@@ -14,6 +15,7 @@ fn write_rules(rules: &[Rule], row: &mut [u64])
     ensures { row.new ≡ put_list row.old 0 (length rules.now ∷ coded rules.now) }
 {
     row[0] = rules.len() as u64;
+    // Each pair by its place, since of what is written through `chunks_exact_mut` a proof knows no more than its length.
     for (i, rule) in rules.iter().enumerate() {
         row[1 + 2 * i] = rule.left.bits();
         row[2 + 2 * i] = rule.right.bits();
@@ -24,7 +26,7 @@ fn write_rules(rules: &[Rule], row: &mut [u64])
 fn write_least(set: &RuleSet, row: &mut [u64]) -> u64
     requires { 2100 ≤ length row.old }
     ensures least { LeastRow set.now.width.columns (deps (rules_of set.now)) row.old result row.new }
-    ensures few { result ≤ set.now.width.columns * set.now.count }
+    ensures few { result ≤ most_rules set.now }
 {
     let cover = least_cover(set);
     let rules = cover.rules();
@@ -36,10 +38,7 @@ fn write_least(set: &RuleSet, row: &mut [u64]) -> u64
 pub fn least_set_for(rules: &[u64], row: &mut [u64]) -> Result<u64, Refusal>
     ensures { CoverTold rules.now row.old result row.new }
 {
-    let set = match read_rules(rules) {
-        Ok(set) => set,
-        Err(refusal) => return Err(refusal),
-    };
+    let set = read_rules(rules)?;
     if row.len() < 2100 {
         return Err(Refusal::ShortRow(row.len() as u64));
     }

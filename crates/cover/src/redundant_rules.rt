@@ -12,9 +12,6 @@ impl Redundancy for Rule {
     ghost laws = { follow_laws };
 
     fn is_redundant(self, others: &[Rule]) -> bool {
-        match follows(others, self) {
-            Implication::Follows => true,
-            Implication::Against(_) => false,
-        }
+        matches!(follows(others, self), Implication::Follows)
     }
 }

@@ -9,13 +9,9 @@ fn gives(rt: &impl Abort, rules: &[u64], answer: &[u64]) -> Result<(), Fail> {
     let mut row = [7; 2100];
     let count = least_set_for(rules, &mut row)?;
     assert_eq!(rt; 1 + 2 * count as usize, answer.len(), "of {rules:?}");
-    for (i, number) in row.iter().enumerate() {
-        if i < answer.len() {
-            assert_eq!(rt; *number, answer[i], "of {rules:?}");
-        } else {
-            assert_eq!(rt; *number, 7, "of {rules:?}");
-        }
-    }
+    assert!(rt; row.starts_with(answer), "of {rules:?}");
+    let behind = row.iter().skip(answer.len());
+    assert!(rt; behind.copied().all(|number| number == 7), "of {rules:?}");
     Ok(())
 }
 
@@ -69,9 +65,7 @@ fn short_row(rt: HostRuntime) {
         least_set_for(&[2, 1, 1, 2], &mut row),
         Err(Refusal::ShortRow(2099))
     );
-    for number in row.iter() {
-        assert_eq!(rt; *number, 7);
-    }
+    assert!(rt; row.iter().all(|number| *number == 7));
 }
 
 #[test]

@@ -22,14 +22,13 @@ pub(crate) fn drop_redundant<T: Redundancy>(queue: &mut Queue<T>)
     requires { length (queued queue.old) ≤ spare queue.old }
     ensures { Trimmed T.redundant (queued queue.old) (queued queue.new) }
 {
-    let mut left = queue.items().len();
-    while left > 0 {
+    let count = queue.items().len();
+    for _ in 0..count {
         let Some(item) = queue.take_first() else {
             return;
         };
         if !item.is_redundant(queue.items()) {
             queue.push(item);
         }
-        left -= 1;
     }
 }

@@ -17,13 +17,11 @@ const ROWS: usize = 64;
 const DESIGN: usize = 2100;
 
 fn show_answers(rt: &HostRuntime, answers: &[u64]) -> io::Result<()> {
-    for i in 0..answers.len() / 2 {
-        let number = answers[2 * i];
-        let place = answers[2 * i + 1];
-        if number == 0 {
-            println!(rt; "done")?;
-        } else {
-            println!(rt; "refused {number} at {place}")?;
+    for answer in answers.chunks_exact(2) {
+        match answer {
+            [0, ..] => println!(rt; "done")?,
+            [number, place, ..] => println!(rt; "refused {number} at {place}")?,
+            _ => {}
         }
     }
     Ok(())

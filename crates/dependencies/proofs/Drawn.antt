@@ -30,3 +30,9 @@ take_drawn f a (suc k) (x ∷ xs) l h =
 
 pub cells_drawn : (f : ℕ → ℕ) (k : ℕ) (xs : List ℕ) → k ≤ length xs → ((i : ℕ) → i < k → get_or xs i 0 ≡ f i) → take k xs ≡ draw f 0 k
 cells_drawn f k xs l h = take_drawn f 0 k xs l (λ i m. h i m ∙ ap f (omega arith))
+
+-- the first cells of a drawn row
+pub take_draw : (f : ℕ → ℕ) (a n k : ℕ) → n ≤ k → take n (draw f a k) ≡ draw f a n
+take_draw f a zero k l = refl
+take_draw f a (suc n) zero l = absurd (omega arith)
+take_draw f a (suc n) (suc k) l = ap (λ v. f a ∷ v) (take_draw f (suc a) n k (omega arith))

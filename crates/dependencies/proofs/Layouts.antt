@@ -1,6 +1,7 @@
 -- Reading rules from numbers, two sets at a time: what the numbers that are left say of all.
 use Rattle.std.proofs.Common.{◌≡◌, ℕ, zero, suc, ◌+◌, ◌-◌, ◌*◌, ◌^◌, ◌<◌, ◌≤◌, true, false, ltb, List, [], ◌∷◌, ◌++◌, get_or, take, drop, sym, refl, ap, ◌∙◌, append_assoc, arith}
-use Rattle.std.proofs.lemmas.List.{get_or-drop, drop-drop, append-nil}
+use Rattle.std.specs.Simd.{first_chunks}
+use Rattle.std.proofs.lemmas.List.{get_or-drop, get_or-take, drop-drop, append-nil}
 use Rattle.std.proofs.lemmas.Bool.{lt-ltb, le-ltb, and_from}
 use Rattle.columns.specs.Cols.{pick, all_in, columns, set_in}
 use Rattle.columns.specs.Sets.{cols}
@@ -40,6 +41,20 @@ rest_right xs i = get_or-drop (2 * i) xs 1 0
 
 rest_next : (xs : List ℕ) (i : ℕ) → drop 2 (rest xs i) ≡ rest xs (i + 1)
 rest_next xs i = let e : 2 * i + 2 ≡ 2 * (i + 1) = omega arith in drop-drop 2 (2 * i) xs ∙ ap (λ (k : ℕ). drop k xs) e
+
+-- the same in pairs
+chunk_at : (k : ℕ) (xs : List ℕ) (i : ℕ) → i < k → get_or (first_chunks 2 k xs) i [] ≡ take 2 (rest xs i)
+chunk_at zero xs i h = absurd (omega arith)
+chunk_at (suc k) xs zero h = refl
+chunk_at (suc k) xs (suc i) h =
+    let e : 2 + 2 * i ≡ 2 * suc i = omega arith in
+    chunk_at k (drop 2 xs) i (omega arith) ∙ ap (take 2) (drop-drop (2 * i) 2 xs ∙ ap (λ (j : ℕ). drop j xs) e)
+
+pub pair_left : (k : ℕ) (xs : List ℕ) (i : ℕ) → i < k → get_or (get_or (first_chunks 2 k xs) i []) 0 0 ≡ left_at xs i
+pair_left k xs i h = ap (λ (ys : List ℕ). get_or ys 0 0) (chunk_at k xs i h) ∙ get_or-take 2 (rest xs i) 0 0 (omega arith) ∙ rest_left xs i
+
+pub pair_right : (k : ℕ) (xs : List ℕ) (i : ℕ) → i < k → get_or (get_or (first_chunks 2 k xs) i []) 1 0 ≡ right_at xs i
+pair_right k xs i h = ap (λ (ys : List ℕ). get_or ys 1 0) (chunk_at k xs i h) ∙ get_or-take 2 (rest xs i) 1 0 (omega arith) ∙ rest_right xs i
 
 -- two sets at a time
 told_two : (n i k : ℕ) (ys : List ℕ) → sets_told n i (suc (suc k)) ys
@@ -117,12 +132,6 @@ left_end n count xs i ds so h =
       sym so.tells ∙ ap (λ (k : ℕ). sets_told n (2 * i) (2 * k) (rest xs i)) e,
       sym (append-nil ds) ∙ sym (ap (λ (k : ℕ). ds ++ rules_in n k (rest xs i)) e) ∙ so.gives,
     )
-
-pub read_all : (n count : ℕ) (xs : List ℕ) (i : ℕ) (rs : List Rule) → Left n count xs i (deps (take i rs)) → i ≡ count
-    → (sets_told n 0 (2 * count) xs ≡ done) × (deps (take count rs) ≡ rules_in n count xs)
-read_all n count xs i rs so e =
-    let all = left_end n count xs i (deps (take i rs)) so (omega arith) in
-    (all.0, sym (ap (λ (z : ℕ). deps (take z rs)) e) ∙ all.1)
 
 -- one more rule is read
 pub deps_read : (n : ℕ) (xs : List ℕ) (i : ℕ) (rs rs' : List Rule) (s t : ColumnSet) → cols s ≡ set_in 0 n (left_at xs i)

@@ -54,9 +54,13 @@ draw f a (suc k) = f a ∷ draw f (suc a) k
 abbrev pub zero_row : ℕ → Row
 zero_row n = draw (λ c. 0) 0 n
 
--- a row of n cells, 0 in the columns cs and 1 in the others
+-- a row of n cells, 0 in the columns cs and v in the others
+abbrev pub apart_row : ℕ → Cols → ℕ → Row
+apart_row n cs v = draw (λ c. pick (has cs c) 0 v) 0 n
+
+-- the same with 1 in the others
 abbrev pub differ_row : ℕ → Cols → Row
-differ_row n cs = draw (λ c. pick (has cs c) 0 1) 0 n
+differ_row n cs = apart_row n cs 1
 
 -- the table of two rows that agree in the columns cs alone
 abbrev pub pair_on : ℕ → Cols → List Row

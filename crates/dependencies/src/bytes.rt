@@ -1,5 +1,6 @@
 // Rules as bytes, as the programs read them.
-ghost use Rattle.std.specs.Prelude.{◌≡◌, take};
+ghost use Rattle.std.specs.Prelude.{◌≡◌, ◌≤◌, length, take};
+ghost use Rattle.bounded.specs.Items.{items};
 ghost use Rattle.dependencies.specs.Bytes.{row_of_bytes};
 ghost use Rattle.dependencies.specs.Reads.{Reads};
 
@@ -7,45 +8,39 @@ use crate::held::RuleSet;
 use crate::input::read_rules;
 use crate::refusals::Refusal;
 use crate::rule_numbers::RuleRow;
+use bounded::Bounded;
 
 impl RuleRow {
     pub fn numbers(&self) -> &[u64]
-        ensures { result.now ≡ take self.now.len self.now.numbers }
+        ensures { result.now ≡ items self.now.numbers }
     {
-        &self.numbers[0..self.len]
+        self.numbers.as_slice()
     }
 }
 
-// The numbers of at most one byte: how many columns there are, if it is there.
-fn start_of(bytes: &[u8]) -> RuleRow
-    ensures { take result.len result.numbers ≡ take 1 bytes.now }
+// A number for each byte.
+fn one_each(bytes: &[u8]) -> Bounded<u64, 66>
+    requires { length bytes.now ≤ 66 }
+    ensures { items result ≡ bytes.now }
 {
-    let mut numbers = [0; 66];
-    let [columns, ..] = bytes else {
-        return RuleRow { numbers, len: 0 };
-    };
-    numbers[0] = *columns as u64;
-    RuleRow { numbers, len: 1 }
+    let mut numbers = Bounded::new(0);
+    for byte in bytes {
+        numbers.push(*byte as u64);
+    }
+    numbers
 }
 
 // The numbers that the bytes stand for, as far as 32 rules need them.
 pub fn rule_row(bytes: &[u8]) -> RuleRow
-    ensures { take result.len result.numbers ≡ take 66 (row_of_bytes bytes.now) }
+    ensures { items result.numbers ≡ take 66 (row_of_bytes bytes.now) }
 {
-    if bytes.len() < 2 {
-        return start_of(bytes);
+    let (start, sets) = bytes.split_at(bytes.len().min(2));
+    let mut numbers = one_each(start);
+    let (sets, _) = sets.as_chunks::<2>();
+    for set in &sets[..sets.len().min(64)] {
+        numbers.push(u16::from_le_bytes(*set) as u64);
     }
-    let mut numbers = [0; 66];
-    numbers[0] = bytes[0] as u64;
-    numbers[1] = bytes[1] as u64;
-    let end = (bytes.len() / 2).min(65);
-    for i in 1..end {
-        numbers[i + 1] = bytes[2 * i] as u64 + 256 * bytes[2 * i + 1] as u64;
-    }
-    RuleRow {
-        numbers,
-        len: end + 1,
-    }
+    RuleRow { numbers }
 }
 
 // The rules of a table from bytes, or the first refusal that applies. What follows the rules is not looked at.

@@ -5,13 +5,14 @@ ghost use Rattle.dependencies.specs.Rules.{dep, deps};
 ghost use Rattle.dependencies.specs.Meaning.{Says, Asked};
 ghost use Rattle.dependencies.specs.Tables.{zero_row, differ_row};
 
+use crate::cells::row_apart;
 use crate::closing::closure;
 use crate::input::read_rules;
 use crate::refusals::Refusal;
 use crate::rules::Rule;
 use columns::ColumnSet;
 
-// Whether a rule follows from others.
+// Whether a rule follows from others: two answers of one rank, so neither nothing beside something nor an error that `?` passes on.
 #[derive(Clone, Copy, PartialEq, Eq, Debug)]
 pub enum Implication {
     // It holds in every table that obeys them.
@@ -43,18 +44,9 @@ pub fn follows(rules: &[Rule], rule: Rule) -> Implication
 pub fn follows_from(lent: &[u64], left: u64, right: u64) -> Result<Implication, Refusal>
     ensures { Asked lent.now left right result }
 {
-    let set = match read_rules(lent) {
-        Ok(set) => set,
-        Err(refusal) => return Err(refusal),
-    };
-    let left = match set.further_set(0, left) {
-        Ok(left) => left,
-        Err(refusal) => return Err(refusal),
-    };
-    let right = match set.further_set(1, right) {
-        Ok(right) => right,
-        Err(refusal) => return Err(refusal),
-    };
+    let set = read_rules(lent)?;
+    let left = set.further_set(0, left)?;
+    let right = set.further_set(1, right)?;
     Ok(follows(set.rules(), Rule { left, right }))
 }
 
@@ -62,13 +54,8 @@ pub fn follows_from(lent: &[u64], left: u64, right: u64) -> Result<Implication, 
 pub fn two_rows(agree: ColumnSet) -> TwoRows
     ensures { (n : ℕ) → n ≤ 16 → (take n result.first ≡ zero_row n) × (take n result.second ≡ differ_row n (cols agree)) }
 {
-    let mut second = [1; 16];
-    let mut rest = agree;
-    while let Some(c) = rest.take_first() {
-        second[c.index() as usize] = 0;
-    }
     TwoRows {
         first: [0; 16],
-        second,
+        second: row_apart(agree, 1),
     }
 }

@@ -5,6 +5,7 @@
 #![tactic(auto)]
 
 mod bytes;
+mod cells;
 mod closing;
 mod held;
 mod implied;
@@ -16,6 +17,7 @@ mod text;
 mod theorems;
 
 pub use bytes::{rule_row, rules_from_bytes};
+pub use cells::{agrees, cell, row_apart};
 pub use closing::closure;
 pub use held::RuleSet;
 pub use implied::{Implication, TwoRows, follows, follows_from, two_rows};

@@ -7,16 +7,16 @@ use std::fmt;
 // What a design has to meet, in the order in which it is tested.
 #[derive(Clone, Copy, PartialEq, Eq, Debug)]
 pub enum Condition {
-    // 1: every column is in some part, and nothing outside the table.
-    Covers,
-    // 2: no part lies inside another.
-    NoneInside,
-    // 3: joining the parts loses nothing and makes nothing up.
-    Lossless,
-    // 4: each part's own rules lie in it, and together they say what the given rules say.
-    RulesKept,
-    // 5: every part is in third normal form.
-    ThirdForm,
+    // Every column is in some part, and nothing outside the table.
+    Covers = 1,
+    // No part lies inside another.
+    NoneInside = 2,
+    // Joining the parts loses nothing and makes nothing up.
+    Lossless = 3,
+    // Each part's own rules lie in it, and together they say what the given rules say.
+    RulesKept = 4,
+    // Every part is in third normal form.
+    ThirdForm = 5,
 }
 
 #[derive(Clone, Copy, PartialEq, Eq, Debug)]
@@ -49,17 +49,12 @@ impl Condition {
     pub fn number(self) -> u64
         ensures { result ≡ condition_number self }
     {
-        match self {
-            Condition::Covers => 1,
-            Condition::NoneInside => 2,
-            Condition::Lossless => 3,
-            Condition::RulesKept => 4,
-            Condition::ThirdForm => 5,
-        }
+        self as u64
     }
 }
 
 impl Refusal {
+    // Told by a match, since only an enum whose variants hold no values is cast to its number.
     pub fn number(self) -> u64
         ensures { result ≡ number (told self) }
     {
@@ -101,9 +96,6 @@ impl fmt::Display for Refusal {
     ghost output = { λ e. Some (shown_refusal (told e)) };
 
     fn fmt<W: fmt::Write>(&self, f: &mut fmt::Formatter<W>) -> fmt::Result {
-        let refusal = *self;
-        let number = refusal.number();
-        let place = refusal.place();
-        write!(f, "refused {number} at {place}")
+        write!(f, "refused {} at {}", self.number(), self.place())
     }
 }

@@ -1,29 +1,26 @@
 // Examples, and the edges of reading: no columns and 17, no rules and 32, a cut row, a set with a column too many.
 use super::*;
-use columns::{ColumnSet, Width};
+use columns::{Column, ColumnSet, Width};
 use std::test::Fail;
 
-// The refusal's number × 1000 and its place, or 0.
-fn told(r: Result<RuleSet, Refusal>) -> u64 {
-    match r {
-        Ok(_) => 0,
-        Err(e) => e.number() * 1000 + e.place() % 1000,
-    }
+// The refusal's number and its place, or none.
+fn told<T: Drop>(r: Result<T, Refusal>) -> Option<(u64, u64)> {
+    r.err().map(|refusal| (refusal.number(), refusal.place()))
 }
 
 #[test]
 fn refusals(rt: HostRuntime) {
-    assert_eq!(rt; told(read_rules(&[])), 1000);
-    assert_eq!(rt; told(read_rules(&[0, 0])), 1000);
-    assert_eq!(rt; told(read_rules(&[17, 0])), 1000);
-    assert_eq!(rt; told(read_rules(&[6])), 2000);
-    assert_eq!(rt; told(read_rules(&[6, 33])), 2033);
-    assert_eq!(rt; told(read_rules(&[6, 1, 1])), 2001);
-    assert_eq!(rt; told(read_rules(&[6, 2, 1, 2, 64, 64])), 3002);
-    assert_eq!(rt; told(read_rules(&[6, 2, 1, 2, 3, 64])), 3003);
-    assert_eq!(rt; told(read_rules(&[6, 2, 1, 2, 3, 63])), 0);
-    assert_eq!(rt; told(read_rules(&[16, 1, 65535, 0])), 0);
-    assert_eq!(rt; told(read_rules(&[1, 0])), 0);
+    assert_eq!(rt; told(read_rules(&[])), Some((1, 0)));
+    assert_eq!(rt; told(read_rules(&[0, 0])), Some((1, 0)));
+    assert_eq!(rt; told(read_rules(&[17, 0])), Some((1, 0)));
+    assert_eq!(rt; told(read_rules(&[6])), Some((2, 0)));
+    assert_eq!(rt; told(read_rules(&[6, 33])), Some((2, 33)));
+    assert_eq!(rt; told(read_rules(&[6, 1, 1])), Some((2, 1)));
+    assert_eq!(rt; told(read_rules(&[6, 2, 1, 2, 64, 64])), Some((3, 2)));
+    assert_eq!(rt; told(read_rules(&[6, 2, 1, 2, 3, 64])), Some((3, 3)));
+    assert_eq!(rt; told(read_rules(&[6, 2, 1, 2, 3, 63])), None);
+    assert_eq!(rt; told(read_rules(&[16, 1, 65535, 0])), None);
+    assert_eq!(rt; told(read_rules(&[1, 0])), None);
 }
 
 #[test]
@@ -31,39 +28,32 @@ fn many_rules(rt: HostRuntime) {
     let mut lent = [1u64; 66];
     lent[0] = 16;
     lent[1] = 32;
-    assert_eq!(rt; told(read_rules(&lent)), 0);
-    assert_eq!(rt; told(read_rules(&lent[0..65])), 2032);
+    assert_eq!(rt; told(read_rules(&lent)), None);
+    assert_eq!(rt; told(read_rules(&lent[0..65])), Some((2, 32)));
     lent[65] = 65536;
-    assert_eq!(rt; told(read_rules(&lent)), 3063);
+    assert_eq!(rt; told(read_rules(&lent)), Some((3, 63)));
 }
 
 #[test]
 fn bytes(rt: HostRuntime) {
-    assert_eq!(rt; told(rules_from_bytes(&[])), 1000);
-    assert_eq!(rt; told(rules_from_bytes(&[6])), 2000);
-    assert_eq!(rt; told(rules_from_bytes(&[6, 1, 1, 0, 2])), 2001);
-    assert_eq!(rt; told(rules_from_bytes(&[6, 1, 1, 0, 0, 1])), 3001);
-    assert_eq!(rt; told(rules_from_bytes(&[9, 1, 1, 0, 0, 1, 7])), 0);
+    assert_eq!(rt; told(rules_from_bytes(&[])), Some((1, 0)));
+    assert_eq!(rt; told(rules_from_bytes(&[6])), Some((2, 0)));
+    assert_eq!(rt; told(rules_from_bytes(&[6, 1, 1, 0, 2])), Some((2, 1)));
+    assert_eq!(rt; told(rules_from_bytes(&[6, 1, 1, 0, 0, 1])), Some((3, 1)));
+    assert_eq!(rt; told(rules_from_bytes(&[9, 1, 1, 0, 0, 1, 7])), None);
     let mut many = [1; 130];
     many[0] = 16;
     many[1] = 32;
-    assert_eq!(rt; told(rules_from_bytes(&many)), 0);
-    assert_eq!(rt; told(rules_from_bytes(&many[0..129])), 2032);
+    assert_eq!(rt; told(rules_from_bytes(&many)), None);
+    assert_eq!(rt; told(rules_from_bytes(&many[0..129])), Some((2, 32)));
 }
 
-// 0 where it follows, or 100 and the set on which two rows against it agree.
-fn answered(a: Implication) -> u64 {
-    match a {
-        Implication::Follows => 0,
-        Implication::Against(agree) => 100 + agree.bits(),
-    }
-}
-
-// The same of lent rules, or the refusal's number × 1000 and its place.
-fn asked(lent: &[u64], left: u64, right: u64) -> u64 {
+// The set on which two rows against it agree, or none where it follows; or the refusal's number and its place.
+fn asked(lent: &[u64], left: u64, right: u64) -> Result<Option<u64>, (u64, u64)> {
     match follows_from(lent, left, right) {
-        Ok(answer) => answered(answer),
-        Err(e) => e.number() * 1000 + e.place() % 1000,
+        Ok(Implication::Follows) => Ok(None),
+        Ok(Implication::Against(agree)) => Ok(Some(agree.bits())),
+        Err(refusal) => Err((refusal.number(), refusal.place())),
     }
 }
 
@@ -72,29 +62,42 @@ const ORGANS: [u64; 10] = [6, 4, 1, 10, 2, 4, 48, 1, 33, 16];
 
 #[test]
 fn implications(rt: HostRuntime) {
-    assert_eq!(rt; asked(&ORGANS, 1, 15), 0);
-    assert_eq!(rt; asked(&ORGANS, 1, 2), 0);
-    assert_eq!(rt; asked(&ORGANS, 1, 16), 115);
-    assert_eq!(rt; asked(&ORGANS, 33, 63), 0);
-    assert_eq!(rt; asked(&ORGANS, 16, 1), 116);
-    assert_eq!(rt; asked(&ORGANS, 64, 1), 3008);
-    assert_eq!(rt; asked(&ORGANS, 1, 64), 3009);
-    assert_eq!(rt; asked(&[6, 1, 0, 2], 0, 2), 0);
-    assert_eq!(rt; asked(&[6, 1, 0, 2], 0, 4), 102);
-    assert_eq!(rt; asked(&[6, 1, 1, 0], 1, 2), 101);
-    assert_eq!(rt; asked(&[6, 0], 5, 4), 0);
+    assert_eq!(rt; asked(&ORGANS, 1, 15), Ok(None));
+    assert_eq!(rt; asked(&ORGANS, 1, 2), Ok(None));
+    assert_eq!(rt; asked(&ORGANS, 1, 16), Ok(Some(15)));
+    assert_eq!(rt; asked(&ORGANS, 33, 63), Ok(None));
+    assert_eq!(rt; asked(&ORGANS, 16, 1), Ok(Some(16)));
+    assert_eq!(rt; asked(&ORGANS, 64, 1), Err((3, 8)));
+    assert_eq!(rt; asked(&ORGANS, 1, 64), Err((3, 9)));
+    assert_eq!(rt; asked(&[6, 1, 0, 2], 0, 2), Ok(None));
+    assert_eq!(rt; asked(&[6, 1, 0, 2], 0, 4), Ok(Some(2)));
+    assert_eq!(rt; asked(&[6, 1, 1, 0], 1, 2), Ok(Some(1)));
+    assert_eq!(rt; asked(&[6, 0], 5, 4), Ok(None));
     // A later rule feeds an earlier one, so that one pass is not enough.
-    assert_eq!(rt; asked(&[3, 2, 2, 4, 1, 2], 1, 4), 0);
+    assert_eq!(rt; asked(&[3, 2, 2, 4, 1, 2], 1, 4), Ok(None));
 }
 
 #[test]
 fn rows_against(rt: HostRuntime) -> Result<(), Fail> {
-    let Some(width) = Width::new(6) else {
-        return Err(Fail::new("six columns"));
-    };
+    let width = Width::new(6).ok_or_else(|| Fail::new("six columns"))?;
     let rows = two_rows(ColumnSet::from_bits(16, width).unwrap_or(ColumnSet::empty()));
     assert!(rt; rows.first == [0; 16]);
     assert!(rt; rows.second == [1, 1, 1, 1, 0, 1, 1, 1, 1, 1, 1, 1, 1, 1, 1, 1]);
+    Ok(())
+}
+
+// A row has 0 where it has no cell, so that a short row and a long one may agree.
+#[test]
+fn rows_compared(rt: HostRuntime) -> Result<(), Fail> {
+    let width = Width::new(6).ok_or_else(|| Fail::new("six columns"))?;
+    let two = Column::new(2).ok_or_else(|| Fail::new("column 2"))?;
+    assert_eq!(rt; cell(&[5, 6, 7], two), 7);
+    assert_eq!(rt; cell(&[5, 6], two), 0);
+    let set = |bits| ColumnSet::from_bits(bits, width).unwrap_or(ColumnSet::empty());
+    assert!(rt; agrees(set(5), &[1, 2], &[1, 1, 0]));
+    assert!(rt; !agrees(set(3), &[1, 2], &[1, 1]));
+    assert!(rt; agrees(set(0), &[1], &[2]));
+    assert!(rt; row_apart(set(16), 7) == [7, 7, 7, 7, 0, 7, 7, 7, 7, 7, 7, 7, 7, 7, 7, 7]);
     Ok(())
 }
 

@@ -10,8 +10,6 @@ impl fmt::Display for Rule {
     ghost output = { λ r. Some (rule_text (dep r)) };
 
     fn fmt<W: fmt::Write>(&self, f: &mut fmt::Formatter<W>) -> fmt::Result {
-        let left = self.left;
-        let right = self.right;
-        write!(f, "{left}>{right}")
+        write!(f, "{}>{}", self.left, self.right)
     }
 }

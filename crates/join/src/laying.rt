@@ -2,6 +2,7 @@
 ghost use Rattle.std.specs.Prelude.{◌≡◌, ◌*◌, ◌≤◌, length, take, drop};
 ghost use Rattle.dependencies.specs.Told.{done};
 ghost use Rattle.parts.specs.Answers.{opened_told};
+ghost use Rattle.register.specs.States.{SamePlan};
 ghost use Rattle.join.specs.Laid.{row_count, lay_told, lay_outcome, LayAfter, LaySays};
 ghost use Rattle.join.specs.Undoing.{TakenBack};
 
@@ -41,10 +42,10 @@ fn take_back(register: &mut Register, rows: TableRows, count: usize)
     requires same { register.old.columns ≡ rows.width.columns }
     requires there { count * rows.width.columns ≤ length rows.cells.now }
     ensures back { TakenBack rows.entry.width.columns register.old.design.now rows.entry.cells.now count 0 register.old.cells.now register.new.cells.now }
-    ensures plan { (register.new.columns ≡ register.old.columns) × (register.new.design.now ≡ register.old.design.now) }
+    ensures plan { SamePlan register.old register.new }
 {
-    for k in 0..count {
-        let _ = register.remove(rows.row(count - 1 - k));
+    for i in (0..count).rev() {
+        let _ = register.remove(rows.row(i));
     }
 }
 
@@ -53,9 +54,10 @@ fn lay_rows(register: &mut Register, rows: TableRows) -> Result<usize, LayRefusa
     requires same { register.old.columns ≡ rows.width.columns }
     requires opened { opened_told rows.width.columns register.old.design.now ≡ done }
     ensures says { LaySays rows.entry.width.columns register.old.design.now register.old.cells.now register.new.cells.now rows.entry.cells.now result }
-    ensures plan { (register.new.columns ≡ register.old.columns) × (register.new.design.now ≡ register.old.design.now) }
+    ensures plan { SamePlan register.old register.new }
 {
     let count = rows.count();
+    // Counted, since the place of a row that is refused is told.
     for i in 0..count {
         if let Err(refusal) = register.insert(rows.row(i)) {
             take_back(register, rows, i);
@@ -73,7 +75,7 @@ fn lay_rows(register: &mut Register, rows: TableRows) -> Result<usize, LayRefusa
 pub fn lay(register: &mut Register, table: &[u64]) -> Result<usize, LayRefusal>
     ensures told { lay_outcome result ≡ lay_told register.old.columns register.old.design.now register.old.cells.now table.now }
     ensures after { LayAfter register.old.columns register.old.design.now register.old.cells.now register.new.cells.now table.now result }
-    ensures plan { (register.new.columns ≡ register.old.columns) × (register.new.design.now ≡ register.old.design.now) }
+    ensures plan { SamePlan register.old register.new }
     ensures long { length register.new.cells.now ≡ length register.old.cells.now }
 {
     let Some(width) = register.width() else {

@@ -1,43 +1,22 @@
 // One part more is joined to rows that were joined so far.
-ghost use Rattle.std.specs.Prelude.{◌≡◌, ◌<◌, ◌++◌, length, IfOk, OnOk, slice_index};
-ghost use Rattle.columns.specs.Cols.{pick, has};
+ghost use Rattle.std.specs.Prelude.{◌≡◌, ◌++◌, length, IfOk, OnOk};
 ghost use Rattle.columns.specs.Sets.{cols};
 ghost use Rattle.parts.specs.Parts.{held_by};
 ghost use Rattle.join.specs.Steps.{merged, join_with, join_first, join_all};
 
-use columns::{Column, ColumnSet};
-use parts::{HeldPart, agrees};
+use columns::ColumnSet;
+use dependencies::{agrees, cell};
+use parts::HeldPart;
 use std::alloc::{AllocError, Global};
-
-// The cell of a row in a column; 0 where the row has none.
-fn cell(row: &[u64], c: usize) -> u64
-    ensures { result ≡ slice_index row.now c }
-{
-    if c < row.len() { row[c] } else { 0 }
-}
-
-// The cell of a row that takes the look's cells in the set's columns.
-fn merged_cell(row: &[u64], set: ColumnSet, look: &[u64], c: u32) -> u64
-    requires { c < 16 }
-    ensures { result ≡ pick (has (cols set) c) (slice_index look.now c) (slice_index row.now c) }
-{
-    let Some(column) = Column::new(c) else {
-        return 0;
-    };
-    if set.contains(column) {
-        cell(look, c as usize)
-    } else {
-        cell(row, c as usize)
-    }
-}
 
 // The row with the look's cells in the set's columns.
 fn merge(row: &[u64; 16], set: ColumnSet, look: &[u64]) -> [u64; 16]
     ensures { result ≡ merged (cols set) look.now row.now }
 {
-    let mut joined = [0; 16];
-    for c in 0..16u32 {
-        joined[c as usize] = merged_cell(row, set, look, c);
+    let mut joined = *row;
+    let mut rest = set;
+    while let Some(c) = rest.take_first() {
+        joined[c.index() as usize] = cell(look, c);
     }
     joined
 }
@@ -47,9 +26,7 @@ fn merge(row: &[u64; 16], set: ColumnSet, look: &[u64]) -> [u64; 16]
 fn joined_with(row: &[u64; 16], shared: ColumnSet, part: HeldPart, i: usize) -> Option<[u64; 16]>
     ensures { result ≡ join_with (cols shared) (cols part.entry.owned) (held_by part.entry) row.now i }
 {
-    let Some(look) = part.look(i) else {
-        return None;
-    };
+    let look = part.look(i)?;
     if !agrees(shared, row, look) {
         return None;
     }
@@ -68,6 +45,7 @@ fn join_row(
 ) -> Result<(), AllocError>
     ensures { OnOk result (rows.new.items ≡ rows.old.items ++ join_first (cols shared) (cols part.entry.owned) (held_by part.entry) row.now (length (held_by part.entry))) }
 {
+    // By its place: a look joins only where it is the first of its kind.
     for i in 0..part.len() {
         if let Some(joined) = joined_with(row, shared, part, i) {
             rows.push(joined)?;

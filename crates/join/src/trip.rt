@@ -1,5 +1,6 @@
 // A table laid and joined again.
 ghost use Rattle.std.specs.Prelude.{◌≡◌, MatchResult};
+ghost use Rattle.register.specs.States.{SamePlan};
 ghost use Rattle.join.specs.Tripped.{Trip, TripFails, TakenWhole};
 
 use crate::failure::TripFailure;
@@ -17,13 +18,12 @@ pub fn lay_and_join(
 ) -> Result<Vec<[u64; 16]>, TripFailure>
     ensures says { MatchResult result (λ v. Trip register.old.columns register.old.design.now register.old.cells.now register.new.cells.now table.now v.items) (λ e. TripFails register.old.columns register.old.design.now register.old.cells.now register.new.cells.now table.now e) }
     ensures whole { TakenWhole register.old.columns register.old.design.now register.old.cells.now table.now }
-    ensures plan { (register.new.columns ≡ register.old.columns) × (register.new.design.now ≡ register.old.design.now) }
+    ensures plan { SamePlan register.old register.new }
 {
-    if let Err(refusal) = lay(register, table) {
-        return Err(TripFailure::Laid(refusal));
-    }
-    match join(heap, register) {
-        Ok(rows) => Ok(rows),
-        Err(_) => Err(TripFailure::NoMemory),
-    }
+    lay(register, table)?;
+    // The register was opened, so that only memory can be wanting. By `map_err` the proof did not close.
+    let Ok(rows) = join(heap, register) else {
+        return Err(TripFailure::NoMemory);
+    };
+    Ok(rows)
 }

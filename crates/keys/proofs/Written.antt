@@ -1,5 +1,5 @@
 -- What the request for all keys leaves in the lent row, from what the walk wrote.
-use Rattle.std.proofs.Common.{◌≡◌, ℕ, suc, ◌+◌, ◌*◌, ◌^◌, ◌<◌, ◌≤◌, List, [], ◌∷◌, length, Some, None, Ok, Err, Option, Result, sym, ap, ◌∙◌, subst, inl, arith}
+use Rattle.std.proofs.Common.{◌≡◌, ℕ, suc, ◌+◌, ◌*◌, ◌^◌, ◌<◌, ◌≤◌, List, [], ◌∷◌, Some, None, Ok, Err, Option, Result, sym, ap, ◌∙◌, subst, inl, arith}
 use Rattle.columns.specs.Cols.{Cols, set_in}
 use Rattle.columns.specs.Sets.{cols}
 use Rattle.columns.specs.declared.set.ColumnSet.{ColumnSet}
@@ -8,7 +8,6 @@ use Rattle.dependencies.specs.Layout.{columns_of, count_of, rules_of_row, readin
 use Rattle.dependencies.specs.Told.{done, refused, told}
 use Rattle.dependencies.specs.declared.refusals.Refusal.{Refusal}
 use Rattle.dependencies.proofs.Asking.{reading_done, fits_next, fits_not, fits_none}
-use Rattle.dependencies.proofs.Lent.{put_fits, put_cut}
 use Rattle.keys.specs.Answer.{Filled, KeysWritten, KeysTold}
 use Rattle.keys.specs.Keys.{AllKeys}
 use Rattle.keys.specs.Listed.{sets, Walked}
@@ -16,21 +15,15 @@ use Rattle.keys.specs.Walks.{KeyIn}
 use Rattle.keys.specs.declared.branch.Branch.{Branch}
 use Rattle.keys.proofs.Entire.{in_entire, of_entire}
 use Rattle.keys.proofs.Lists.{all_keys}
-use Rattle.keys.proofs.Rooms.{room_some, room_none}
 
 module _ (ds : List Dep) (b : Branch) (aim : ColumnSet) (aimed : b.target ≡ aim) (bare : cols b.chosen ≡ []) (all-free : b.free ≡ aim) (row : List ℕ) where
-  listed : (r : Option ℕ) (after : List ℕ) (w : Walked ds b row 0 r after) → AllKeys ds (cols aim) (sets w.list)
+  listed : (r : Option ℕ) (after : List ℕ) (w : Walked ds b row r after) → AllKeys ds (cols aim) (sets w.list)
   listed r after w =
       all_keys (KeyIn ds b) ds (cols aim) (sets w.list) (λ k h. h.rises) (of_entire ds b aim aimed bare all-free) (in_entire ds b aim aimed bare all-free) w.found
 
-  pub filled : (r : Option ℕ) (after : List ℕ) → Walked ds b row 0 r after → Filled ds (cols aim) row r after
-  filled (Some k) after w =
-      let p = room_some (length row) 0 k w.list w.put.1 in
-      let fits : length w.list ≤ length row = omega (arith, p.1 (omega arith)) in
-      (w.list, listed (Some k) after w, omega (arith, p.0), fits, w.put.0 ∙ put_fits row w.list fits)
-  filled None after w =
-      let more : length row < length w.list = omega (arith, room_none (length row) 0 w.list w.put.1) in
-      (w.list, listed None after w, more, w.put.0 ∙ put_cut row w.list more)
+  pub filled : (r : Option ℕ) (after : List ℕ) → Walked ds b row r after → Filled ds (cols aim) row r after
+  filled (Some k) after w = (w.list, listed (Some k) after w, w.put.0, w.put.1, w.put.2)
+  filled None after w = (w.list, listed None after w, w.put.0, w.put.1)
 
 -- one set asked of behind the rules: it fits, or is told
 module _ (xs : List ℕ) (bits n k : ℕ) (read : reading xs ≡ done) (n-is : n ≡ columns_of xs) (k-is : k ≡ count_of xs) where

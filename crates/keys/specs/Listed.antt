@@ -19,8 +19,8 @@ abbrev pub sets : List ℕ → List Cols
 sets [] = []
 sets (y ∷ ys) = set_in 0 64 y ∷ sets ys
 
--- the keys of a branch are written behind the first n numbers of a row, as far as there is room
-pub record Walked (ds : List Dep) (b : Branch) (row : List ℕ) (n : ℕ) (r : Option ℕ) (after : List ℕ) : Type 0 where
+-- the keys of a branch are written at the front of a row, as far as there is room
+pub record Walked (ds : List Dep) (b : Branch) (row : List ℕ) (r : Option ℕ) (after : List ℕ) : Type 0 where
   pub list : List ℕ
   pub found : Exactly (KeyIn ds b) (sets list)
-  pub put : Emitted row n list r after
+  pub put : Emitted row list r after

@@ -30,9 +30,7 @@ impl Branch {
         ensures { MatchOption result (cols self.free ≡ []) (λ h. Divided self h.with h.without) }
     {
         let mut free = self.free;
-        let Some(c) = free.take_first() else {
-            return None;
-        };
+        let c = free.take_first()?;
         let with = Branch {
             target: self.target,
             chosen: self.chosen.with(c),

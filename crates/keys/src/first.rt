@@ -19,12 +19,11 @@ fn first_in(rules: &[Rule], branch: Branch) -> Option<ColumnSet>
     match prune(rules, branch) {
         Pruned::Leaf => Some(branch.chosen),
         Pruned::Dead => None,
-        Pruned::Fork(halves) => {
-            let Some(key) = first_in(rules, halves.with) else {
-                return first_in(rules, halves.without);
-            };
-            Some(key)
-        }
+        // Not by `or_else`: inside the recursion the proof knows nothing of what its closure returns.
+        Pruned::Fork(halves) => match first_in(rules, halves.with) {
+            Some(key) => Some(key),
+            None => first_in(rules, halves.without),
+        },
     }
 }
 

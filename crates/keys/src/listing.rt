@@ -1,7 +1,8 @@
 // All keys, in order, written into lent room.
+ghost use Rattle.std.specs.Prelude.{[], ◌∷◌};
 ghost use Rattle.columns.specs.Sets.{cols};
 ghost use Rattle.dependencies.specs.Rules.{deps};
-ghost use Rattle.keys.specs.Room.{Put};
+ghost use Rattle.keys.specs.Room.{Emitted};
 ghost use Rattle.keys.specs.Listed.{Walked};
 ghost use Rattle.keys.specs.Answer.{Filled, KeysWritten, KeysTold};
 
@@ -10,30 +11,26 @@ use crate::pruning::{Pruned, prune};
 use columns::ColumnSet;
 use dependencies::{Refusal, Rule, read_rules};
 
-// Writes a number behind the first `count`; None where there is no room for it, and else how many there are then.
-fn put(out: &mut [u64], count: usize, number: u64) -> Option<usize>
-    ensures { Put out.old count number result out.new }
+// Writes a number at the front of the row, and gives that it is one; None where the row has no room.
+fn put(out: &mut [u64], number: u64) -> Option<usize>
+    ensures { Emitted out.old (number ∷ []) result out.new }
 {
-    if count >= out.len() {
-        return None;
-    }
-    out[count] = number;
-    Some(count + 1)
+    let first = out.first_mut()?;
+    *first = number;
+    Some(1)
 }
 
-// Writes the keys of a branch behind the first `count`, and gives how many there are then; None where there was no room
-// for the next.
-fn walk(rules: &[Rule], branch: Branch, out: &mut [u64], count: usize) -> Option<usize>
-    ensures { Walked (deps rules.now) branch out.old count result out.new }
+// Writes the keys of a branch from the start of the row on, and gives how many there are; None where there was no room for the next.
+fn walk(rules: &[Rule], branch: Branch, out: &mut [u64]) -> Option<usize>
+    ensures { Walked (deps rules.now) branch out.old result out.new }
 {
     match prune(rules, branch) {
-        Pruned::Leaf => put(out, count, branch.chosen.bits()),
-        Pruned::Dead => Some(count),
+        Pruned::Leaf => put(out, branch.chosen.bits()),
+        Pruned::Dead => Some(0),
         Pruned::Fork(halves) => {
-            let Some(more) = walk(rules, halves.with, out, count) else {
-                return None;
-            };
-            walk(rules, halves.without, out, more)
+            let count = walk(rules, halves.with, out)?;
+            let more = walk(rules, halves.without, &mut out[count..])?;
+            Some(count + more)
         }
     }
 }
@@ -42,7 +39,7 @@ fn walk(rules: &[Rule], branch: Branch, out: &mut [u64], count: usize) -> Option
 fn fill(rules: &[Rule], target: ColumnSet, out: &mut [u64]) -> Option<usize>
     ensures { Filled (deps rules.now) (cols target) out.old result out.new }
 {
-    walk(rules, Branch::whole(target), out, 0)
+    walk(rules, Branch::whole(target), out)
 }
 
 // All keys of the target, each once and in the order of sets, as numbers at the start of the lent row; how many there are.
@@ -61,13 +58,7 @@ pub fn write_keys(rules: &[Rule], target: ColumnSet, out: &mut [u64]) -> Result<
 pub fn candidate_keys(lent: &[u64], set: u64, out: &mut [u64]) -> Result<u64, Refusal>
     ensures { KeysTold lent.now set out.old result out.new }
 {
-    let rules = match read_rules(lent) {
-        Ok(rules) => rules,
-        Err(refusal) => return Err(refusal),
-    };
-    let target = match rules.further_set(0, set) {
-        Ok(target) => target,
-        Err(refusal) => return Err(refusal),
-    };
+    let rules = read_rules(lent)?;
+    let target = rules.further_set(0, set)?;
     write_keys(rules.rules(), target, out)
 }

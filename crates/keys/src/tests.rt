@@ -86,10 +86,7 @@ fn pairs(rt: HostRuntime) -> Result<(), Fail> {
     lent[1] = 16;
     for i in 0..8 {
         let low = 1 << (2 * i);
-        lent[2 + 4 * i] = low;
-        lent[3 + 4 * i] = 2 * low;
-        lent[4 + 4 * i] = 2 * low;
-        lent[5 + 4 * i] = low;
+        lent[2 + 4 * i..6 + 4 * i].copy_from_slice(&[low, 2 * low, 2 * low, low]);
     }
     let mut short = [0; 255];
     assert_eq!(rt;
@@ -109,8 +106,8 @@ fn eights(rt: HostRuntime) -> Result<(), Fail> {
     let mut lent = [0xffff; 66];
     lent[0] = 16;
     lent[1] = 32;
-    for i in 0..32 {
-        lent[2 + 2 * i] = EIGHTS[31 - i];
+    for (rule, left) in lent[2..].chunks_exact_mut(2).zip(EIGHTS.iter().rev()) {
+        rule[0] = *left;
     }
     let mut row = [0; 32];
     assert_eq!(rt; candidate_keys(&lent, 0xffff, &mut row), Ok(32));

@@ -25,10 +25,7 @@ const EIGHTS: [u64; 66] = [
 
 // Lists the keys of a table into the row, and gives how many there are.
 fn list(lent: &[u64], row: &mut [u64]) -> u64 {
-    match candidate_keys(lent, 0xffff, row) {
-        Ok(count) => count,
-        Err(_) => 0,
-    }
+    candidate_keys(lent, 0xffff, row).unwrap_or(0)
 }
 
 fn main(rt: HostRuntime) -> io::Result<()> {

@@ -1,11 +1,10 @@
 -- A lent design that can be read: what its parts' numbers are, and the design without its first part.
-use Rattle.std.proofs.Common.{◌≡◌, ℕ, zero, suc, ◌+◌, ◌-◌, ◌*◌, ◌/◌, ◌%◌, ◌^◌, ◌<◌, ◌≤◌, Bool, true, false, ◌&&◌, eqb, ltb, leb, List, [], ◌∷◌, length, get_or, take, drop, sym, refl, ap, ◌∙◌, ap₂, arith}
+use Rattle.std.proofs.Common.{◌≡◌, ℕ, zero, suc, ◌+◌, ◌-◌, ◌*◌, ◌/◌, ◌%◌, ◌^◌, ◌<◌, ◌≤◌, Bool, true, false, ◌&&◌, eqb, ltb, leb, List, [], ◌∷◌, length, get_or, drop, sym, refl, ap, ◌∙◌, ap₂, arith}
 use lib.Bits.{bit_and}
 use Rattle.std.proofs.lemmas.Nat.{and_mask, one_shl, mod-pow-add, mod_low, field_of, mod_below, pow_pos}
 use Rattle.std.proofs.lemmas.Bool.{and_parts, and_from, and_left, and_right, leb-true, le-leb, lt-leb}
-use Rattle.std.proofs.lemmas.List.{get_or-drop, drop-drop, length-drop, length-take-le}
 use Rattle.columns.specs.Cols.{Cols, pick, set_in}
-use Rattle.schema.specs.Layout.{all_sets_fit}
+use Rattle.schema.specs.Layout.{all_sets_fit, is_first_whole}
 use Rattle.parts.specs.Store.{whole_part, formed, readable}
 
 -- a set of a table of n columns is named by the low digits of a number
@@ -29,33 +28,6 @@ low_mask bits w n e l =
 pub low_below : (bits n : ℕ) → bits % 2 ^ n < 2 ^ n
 low_below bits n = mod_below bits (2 ^ n) (pow_pos n)
 
--- the sets of a part and of its rules name columns of the table
-pub fit_more : (n : ℕ) (xs : List ℕ) (i : ℕ) → i < length xs → all_sets_fit n (length xs - i) (drop i xs) ≡ (ltb (get_or xs i 0) (2 ^ n) && all_sets_fit n (length xs - (i + 1)) (drop (i + 1) xs))
-unfolding all_sets_fit
-fit_more n xs i l =
-    let z : length xs - i ≡ suc (length xs - (i + 1)) = omega arith in
-    let g : get_or (drop i xs) 0 0 ≡ get_or xs i 0 = get_or-drop i xs 0 0 ∙ ap (λ (k : ℕ). get_or xs k 0) (omega arith) in
-    ap (λ (k : ℕ). all_sets_fit n k (drop i xs)) z
-    ∙ ap₂ (λ (v : ℕ) (w : List ℕ). ltb v (2 ^ n) && all_sets_fit n (length xs - (i + 1)) w) g (drop-drop 1 i xs)
-
-pub fit_end : (n : ℕ) (xs : List ℕ) (i : ℕ) → length xs ≤ i → all_sets_fit n (length xs - i) (drop i xs) ≡ true
-unfolding all_sets_fit
-fit_end n xs i l = let z : length xs - i ≡ 0 = omega arith in ap (λ (k : ℕ). all_sets_fit n k (drop i xs)) z
-
--- what stands behind the sets does not matter
-pub fit_front : (n k : ℕ) (xs : List ℕ) → all_sets_fit n k (take k xs) ≡ all_sets_fit n k xs
-unfolding all_sets_fit
-fit_front n zero xs = refl
-fit_front n (suc k) [] = refl
-fit_front n (suc k) (x ∷ xs) = ap (λ (b : Bool). ltb x (2 ^ n) && b) (fit_front n k xs)
-
--- the sets of k numbers behind the first two
-pub fit_behind : (n k : ℕ) (xs : List ℕ) → 2 + k ≤ length xs → all_sets_fit n (length (take (2 + k - 2) (drop 2 xs))) (take (2 + k - 2) (drop 2 xs)) ≡ all_sets_fit n k (drop 2 xs)
-fit_behind n k xs l =
-    let z : 2 + k - 2 ≡ k = omega arith in
-    let len : length (take k (drop 2 xs)) ≡ k = length-take-le k (drop 2 xs) (simp length-drop (omega arith)) in
-    ap (λ (j : ℕ). all_sets_fit n (length (take j (drop 2 xs))) (take j (drop 2 xs))) z ∙ ap (λ (j : ℕ). all_sets_fit n j (take k (drop 2 xs))) len ∙ fit_front n k (drop 2 xs)
-
 pub record WholePart (n : ℕ) (xs : List ℕ) : Type 0 where
   pub long : 2 + 2 * get_or xs 1 0 ≤ length xs
   pub few : get_or xs 1 0 ≤ 4294967295
@@ -67,27 +39,30 @@ whole_says n xs e =
     let b = and_parts (leb (2 + 2 * get_or xs 1 0) (length xs)) (leb (get_or xs 1 0) 4294967295) a.0 in
     record { long = leb-true _ _ b.0; few = leb-true _ _ b.1 }
 
-module _ (n : ℕ) (xs : List ℕ) where
-  pub too_short : length xs < 2 + 2 * get_or xs 1 0 → whole_part n xs ≡ false
-  unfolding whole_part
-  too_short l = and_left _ _ (and_left _ _ (lt-leb (2 + 2 * get_or xs 1 0) (length xs) l))
+last_of : (a b c : Bool) → (a && c) ≡ false → ((a && b) && c) ≡ false
+last_of true true c e = e
+last_of true false c e = refl
+last_of false b c e = refl
 
+but_one : (a c : Bool) → ((a && true) && c) ≡ (a && c)
+but_one true c = refl
+but_one false c = refl
+
+module _ (n : ℕ) (xs : List ℕ) where
+  -- a part at the front that is there whole is one of a register, unless it has too many rules
   pub too_many : 4294967295 < get_or xs 1 0 → whole_part n xs ≡ false
   unfolding whole_part
   too_many l = and_left _ _ (and_right (leb (2 + 2 * get_or xs 1 0) (length xs)) _ (lt-leb (get_or xs 1 0) 4294967295 l))
 
-  pub set_outside : ltb (get_or xs 0 0) (2 ^ n) ≡ false → whole_part n xs ≡ false
+  pub not_there : is_first_whole n xs ≡ false → whole_part n xs ≡ false
   unfolding whole_part
-  set_outside e = and_right (leb (2 + 2 * get_or xs 1 0) (length xs) && leb (get_or xs 1 0) 4294967295) _ (and_left _ _ e)
+  not_there e = last_of (leb (2 + 2 * get_or xs 1 0) (length xs)) (leb (get_or xs 1 0) 4294967295) (ltb (get_or xs 0 0) (2 ^ n) && all_sets_fit n (2 * get_or xs 1 0) (drop 2 xs)) e
 
-  pub rule_outside : all_sets_fit n (2 * get_or xs 1 0) (drop 2 xs) ≡ false → whole_part n xs ≡ false
+  pub part_stands : get_or xs 1 0 ≤ 4294967295 → is_first_whole n xs ≡ true → whole_part n xs ≡ true
   unfolding whole_part
-  rule_outside e = and_right (leb (2 + 2 * get_or xs 1 0) (length xs) && leb (get_or xs 1 0) 4294967295) _ (and_right (ltb (get_or xs 0 0) (2 ^ n)) _ e)
-
-  pub part_stands : 2 + 2 * get_or xs 1 0 ≤ length xs → get_or xs 1 0 ≤ 4294967295 → ltb (get_or xs 0 0) (2 ^ n) ≡ true
-      → all_sets_fit n (2 * get_or xs 1 0) (drop 2 xs) ≡ true → whole_part n xs ≡ true
-  unfolding whole_part
-  part_stands a b s r = and_from _ _ (and_from _ _ (le-leb _ _ a) (le-leb _ _ b)) (and_from _ _ s r)
+  part_stands few e =
+      ap (λ (b : Bool). (leb (2 + 2 * get_or xs 1 0) (length xs) && b) && (ltb (get_or xs 0 0) (2 ^ n) && all_sets_fit n (2 * get_or xs 1 0) (drop 2 xs))) (le-leb (get_or xs 1 0) 4294967295 few)
+      ∙ but_one (leb (2 + 2 * get_or xs 1 0) (length xs)) (ltb (get_or xs 0 0) (2 ^ n) && all_sets_fit n (2 * get_or xs 1 0) (drop 2 xs)) ∙ e
 
 -- one part less
 pub formed_more : (n k : ℕ) (xs : List ℕ) → 0 < k → formed n k xs ≡ (whole_part n xs && formed n (k - 1) (drop (2 + 2 * get_or xs 1 0) xs))

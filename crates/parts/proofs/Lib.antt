@@ -4,10 +4,11 @@ pub mod Counted
 pub mod Decoded
 pub mod Formed
 pub mod Masking
+pub mod PartReading
+pub mod Passing
 pub mod Placed
 pub mod Shares
 pub mod Spaces
 pub mod Turns
 pub mod Walks
 pub mod Written
-pub mod PartReading

@@ -1,10 +1,12 @@
 -- A look that is counted once more or once less, by its place.
-use Rattle.std.proofs.Common.{◌≡◌, ℕ, suc, ◌+◌, ◌-◌, ◌<◌, ◌≤◌, Bool, true, false, eqb, ltb, List, [], ◌∷◌, ◌++◌, length, get_or, take, drop, sym, refl, ap, ◌∙◌, inl, inr, arith}
+use Rattle.std.proofs.Common.{◌≡◌, ℕ, suc, ◌+◌, ◌-◌, ◌<◌, ◌≤◌, Bool, true, false, eqb, ltb, List, [], ◌∷◌, ◌++◌, length, get_or, take, drop, Ok, Err, Result, sym, refl, ap, ◌∙◌, inl, inr, arith}
+use Rattle.std.specs.Result.{is_ok}
 use Rattle.std.proofs.lemmas.Bool.{lt-ltb, le-ltb, eq-eqb, ne_eqb, cases_lt}
 use Rattle.dependencies.specs.Tables.{Row, agree}
 use Rattle.columns.specs.Cols.{Cols, pick}
 use Rattle.parts.specs.Day.{Held, holds, one_more, one_less, masked}
 use Rattle.parts.specs.Store.{place_in, no_held}
+use Rattle.parts.specs.Places.{Found}
 
 ltb_suc : (a b : ℕ) → ltb a b ≡ ltb (suc a) (suc b)
 ltb_suc a b =
@@ -31,11 +33,10 @@ holds_place p r (h ∷ hs) = go (agree p r h.looks) (holds_place p r hs)
     go true l = sym (lt-ltb 0 (suc (length hs)) (omega arith))
     go false l = l ∙ ltb_suc (place_in p r hs) (length hs)
 
-pub held_there : (p : Cols) (r : Row) (hs : List Held) (i : ℕ) → i ≡ place_in p r hs → i < length hs → true ≡ holds p r hs
-held_there p r hs i e l = sym (holds_place p r hs ∙ lt-ltb (place_in p r hs) (length hs) (omega arith))
-
-pub held_nowhere : (p : Cols) (r : Row) (hs : List Held) (i : ℕ) → i ≡ place_in p r hs → i ≡ length hs → false ≡ holds p r hs
-held_nowhere p r hs i e l = sym (holds_place p r hs ∙ le-ltb (place_in p r hs) (length hs) (omega arith))
+-- a row that was found is held
+pub held_tells : (p : Cols) (r : Row) (hs : List Held) (at : Result ℕ ℕ) → Found p r hs at → is_ok at ≡ holds p r hs
+held_tells p r hs (Ok i) w = sym (holds_place p r hs ∙ lt-ltb (place_in p r hs) (length hs) (omega arith))
+held_tells p r hs (Err i) w = sym (holds_place p r hs ∙ le-ltb (place_in p r hs) (length hs) (omega arith))
 
 pub more_at : (p : Cols) (r : Row) (hs : List Held) → place_in p r hs < length hs
     → one_more p r hs

@@ -28,10 +28,3 @@ zero_there xs n =
       | inl l ↦ get_or-set_same xs n 0 0 l
       | inr l ↦ get_or_past (set xs n 0) n 0 (simp length-set l)
     ]
-
--- a row of a part lies in the part's cells
-pub row_inside : (n m i room : ℕ) (xs : List ℕ) → length xs ≡ room * (n + 1) → m ≡ n → i < room → i * (m + 1) + m < length xs
-row_inside n m i room xs e q l =
-    let f = row_fits i room (n + 1) l in
-    let z : i * (m + 1) + m ≡ i * (n + 1) + n = ap (λ (k : ℕ). i * (k + 1) + k) q in
-    omega arith

@@ -1,61 +1,54 @@
 -- What each loop and each write of a part keeps, from what its cells hold.
-use Rattle.std.proofs.Common.{◌≡◌, ℕ, suc, ◌+◌, ◌-◌, ◌*◌, ◌<◌, ◌≤◌, Bool, true, false, ltb, leb, List, [], ◌∷◌, length, get_or, drop, sym, refl, ap, ◌∙◌, ap₂, arith, drop-cons}
+use Rattle.std.proofs.Common.{◌≡◌, ℕ, suc, ◌+◌, ◌-◌, ◌*◌, ◌<◌, ◌≤◌, Bool, true, false, ltb, leb, List, [], ◌∷◌, length, get_or, take, drop, sym, refl, ap, ◌∙◌, ap₂, arith}
 use Rattle.std.proofs.lemmas.Bool.{lt-ltb, le-ltb, leb-false}
 use Rattle.parts.specs.Answers.{full}
-use Rattle.std.proofs.lemmas.List.{drop_more, get_or-drop, drop-drop, length-drop}
+use Rattle.std.proofs.lemmas.List.{get_or-take, take-take, nil_from_length}
 use Rattle.dependencies.specs.Tables.{Row, agree}
 use Rattle.columns.specs.Cols.{Cols, pick}
 use Rattle.parts.specs.Day.{Held}
 use Rattle.parts.specs.Store.{held_row, held_in, no_held, place_in}
-use Rattle.parts.proofs.Spaces.{next_row}
 use Rattle.parts.proofs.Decoded.{held_stop, held_more, held_length, held_at}
-use Rattle.parts.proofs.Placed.{place_le, holds_place}
+use Rattle.parts.proofs.Placed.{holds_place}
 
--- counting the rows that are held
-pub count_stop : (n i k l : ℕ) (xs : List ℕ) → i + length (held_in n (k - i) (drop (i * (n + 1)) xs)) ≡ l → get_or xs (i * (n + 1) + n) 0 ≡ 0 → i ≡ l
-count_stop n i k l xs inv e =
-    let s : held_in n (k - i) (drop (i * (n + 1)) xs) ≡ [] = held_stop n (k - i) (drop (i * (n + 1)) xs) (get_or-drop (i * (n + 1)) xs n 0 ∙ e) in
-    let z : length (held_in n (k - i) (drop (i * (n + 1)) xs)) ≡ 0 = ap length s in
-    omega arith
+-- the row at the front, as the code cuts it
+module _ (n m k : ℕ) (cells front : List ℕ) (e : m ≡ n) (f : front ≡ take (m + 1) cells) where
+  times_here : get_or cells n 0 ≡ get_or front m 0
+  times_here = ap (λ (i : ℕ). get_or cells i 0) (sym e) ∙ sym (get_or-take (m + 1) cells m 0 (omega arith)) ∙ ap (λ (xs : List ℕ). get_or xs m 0) (sym f)
 
-pub count_more : (n i k l : ℕ) (xs : List ℕ) → i < k → i + length (held_in n (k - i) (drop (i * (n + 1)) xs)) ≡ l → (get_or xs (i * (n + 1) + n) 0 ≡ 0 → ⊥)
-    → i + 1 + length (held_in n (k - (i + 1)) (drop ((i + 1) * (n + 1)) xs)) ≡ l
-count_more n i k l xs lt inv e =
-    let w : ℕ = n + 1 in
-    let s : held_in n (k - i) (drop (i * w) xs) ≡ held_row n (drop (i * w) xs) ∷ held_in n (k - i - 1) (drop w (drop (i * w) xs))
-    = held_more n (k - i) (drop (i * w) xs) (omega arith) (λ z. e (sym (get_or-drop (i * w) xs n 0) ∙ z)) in
-    let d : drop w (drop (i * w) xs) ≡ drop ((i + 1) * w) xs = drop-drop w (i * w) xs ∙ ap (λ (z : ℕ). drop z xs) (sym (next_row i w)) in
-    let m : k - i - 1 ≡ k - (i + 1) = omega arith in
-    let z : length (held_in n (k - i) (drop (i * w) xs)) ≡ suc (length (held_in n (k - (i + 1)) (drop ((i + 1) * w) xs)))
-    = ap length s ∙ ap₂ (λ (a : ℕ) (b : List ℕ). suc (length (held_in n a b))) m d in
-    omega arith
+  pub rows_end : get_or front m 0 ≡ 0 → held_in n k cells ≡ []
+  rows_end z = held_stop n k cells (times_here ∙ z)
 
-pub count_end : (n i k l : ℕ) (xs : List ℕ) → k ≤ i → i ≤ k → i + length (held_in n (k - i) (drop (i * (n + 1)) xs)) ≡ l → k ≡ l
-count_end n i k l xs a b inv =
-    let z = held_length n (k - i) (drop (i * (n + 1)) xs) in
-    omega arith
+  pub rows_turn : (behind : List ℕ) → behind ≡ drop (m + 1) cells → 0 < k → (get_or front m 0 ≡ 0 → ⊥)
+      → held_in n k cells ≡ record { looks = take m front; times = get_or front m 0 } ∷ held_in n (k - 1) behind
+  unfolding held_row
+  rows_turn behind b l some =
+      let looks : take n cells ≡ take m front = ap (λ (i : ℕ). take i cells) (sym e) ∙ sym (take-take m (m + 1) cells (omega arith)) ∙ ap (λ (xs : List ℕ). take m xs) (sym f) in
+      held_more n k cells l (λ z. some (sym times_here ∙ z))
+      ∙ ap₂ (λ (h : Held) (xs : List ℕ). h ∷ held_in n (k - 1) xs) (ap₂ (λ (u : List ℕ) (t : ℕ). record { looks = u; times = t }) looks times_here)
+      (ap (λ (i : ℕ). drop (i + 1) cells) (sym e) ∙ sym b)
 
--- looking for a look
-pub place_found : (p : Cols) (r : Row) (hs : List Held) (i l : ℕ) → i < length hs → agree p r (get_or hs i no_held).looks ≡ true → i + place_in p r (drop i hs) ≡ l → i ≡ l
-unfolding place_in
-place_found p r hs i l lt a inv =
-    let d : place_in p r (drop i hs) ≡ pick (agree p r (get_or hs i no_held).looks) 0 (suc (place_in p r (drop (suc i) hs))) = ap (λ (z : List Held). place_in p r z) (drop-cons hs i no_held lt) in
-    let z : place_in p r (drop i hs) ≡ 0 = d ∙ rw a in
-    omega arith
+pub no_rows : (n k : ℕ) (cells : List ℕ) → k ≡ 0 → held_in n k cells ≡ []
+no_rows n k cells e = nil_from_length (held_in n k cells) (omega (arith, held_length n k cells))
 
-pub place_next : (p : Cols) (r : Row) (hs : List Held) (i l : ℕ) → i < length hs → agree p r (get_or hs i no_held).looks ≡ false → i + place_in p r (drop i hs) ≡ l
-    → i + 1 + place_in p r (drop (i + 1) hs) ≡ l
-unfolding place_in
-place_next p r hs i l lt a inv =
-    let d : place_in p r (drop i hs) ≡ pick (agree p r (get_or hs i no_held).looks) 0 (suc (place_in p r (drop (i + 1) hs))) = ap (λ (z : List Held). place_in p r z) (drop_more hs i no_held lt) in
-    let z : place_in p r (drop i hs) ≡ suc (place_in p r (drop (i + 1) hs)) = d ∙ rw a in
-    omega arith
+-- looking for a look: i rows were passed, and these are left
+module _ (p : Cols) (r : Row) (hs : List Held) where
+  pub place_found : (h : Held) (left : List Held) (i l : ℕ) → hs ≡ h ∷ left → agree p r h.looks ≡ true → i + place_in p r hs ≡ l → i ≡ l
+  unfolding place_in
+  place_found h left i l e a inv =
+      let z : place_in p r hs ≡ 0 = ap (λ (z : List Held). place_in p r z) e ∙ rw a in
+      omega arith
 
-pub place_end : (p : Cols) (r : Row) (hs : List Held) (i l : ℕ) → length hs ≤ i → i + place_in p r (drop i hs) ≡ l → i ≡ l
-place_end p r hs i l le inv =
-    let z = place_le p r (drop i hs) in
-    let y = length-drop i hs in
-    omega arith
+  pub place_next : (h : Held) (left : List Held) (i j l : ℕ) → hs ≡ h ∷ left → agree p r h.looks ≡ false → j ≡ i + 1 → i + place_in p r hs ≡ l → j + place_in p r left ≡ l
+  unfolding place_in
+  place_next h left i j l e a next inv =
+      let z : place_in p r hs ≡ suc (place_in p r left) = ap (λ (z : List Held). place_in p r z) e ∙ rw a in
+      omega arith
+
+  pub place_end : (i l : ℕ) → hs ≡ [] → i + place_in p r hs ≡ l → i ≡ l
+  unfolding place_in
+  place_end i l e inv =
+      let z : place_in p r hs ≡ 0 = ap (λ (z : List Held). place_in p r z) e in
+      omega arith
 
 -- a part that is full
 pub full_test : (k : ℕ) (p : Cols) (r : Row) (hs : List Held) → full k p r hs ≡ pick (ltb (place_in p r hs) (length hs)) (leb 4294967295 (get_or hs (place_in p r hs) no_held).times) (leb k (length hs))

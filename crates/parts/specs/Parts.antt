@@ -1,11 +1,11 @@
 -- The parts of a register as others read them.
-use Rattle.std.specs.Prelude.{◌≡◌, ℕ, ◌-◌, true, List, [], slice_index_or, drop, slice_index}
+use Rattle.std.specs.Prelude.{◌≡◌, ℕ, List, [], slice_index_or}
 use Rattle.columns.specs.Sets.{cols}
 use Rattle.dependencies.specs.Told.{Told, done, refused}
 use Rattle.schema.specs.Design.{no_part}
-use Rattle.schema.specs.Layout.{parts_in, design_in}
+use Rattle.schema.specs.Layout.{design_in}
 use Rattle.parts.specs.Day.{Held}
-use Rattle.parts.specs.Store.{held_in, formed, held_of}
+use Rattle.parts.specs.Store.{held_in, held_of}
 use Rattle.parts.specs.declared.held_part.HeldPart.{HeldPart}
 
 -- what a part that was read holds
@@ -30,8 +30,3 @@ pub record PartAt (n : ℕ) (d g : List ℕ) (p : ℕ) (h : HeldPart) : Type 0 w
 pub record NoPart (h : HeldPart) : Type 0 where
   pub columns : cols h.owned ≡ []
   pub holds : held_by h ≡ []
-
--- these numbers stand from part p of the design on
-pub record FromPart (n : ℕ) (d : List ℕ) (p : ℕ) (rest : List ℕ) : Type 0 where
-  pub sound : formed n (slice_index d 0 - p) rest ≡ true
-  pub parts : parts_in n (slice_index d 0 - p) rest ≡ drop p (design_in n d)

@@ -6,23 +6,18 @@ ghost use Rattle.parts.specs.Day.{masked, holds as held_before, one_more, one_le
 ghost use Rattle.parts.specs.Store.{held_in, Clean};
 ghost use Rattle.parts.specs.Answers.{full as no_more_room};
 
-use crate::looks::cell;
 use crate::part_rows::PartRows;
-use crate::rows_held::Place;
 use crate::whole_row::WholeRow;
 use columns::{Column, ColumnSet, Width};
+use dependencies::cell;
 
 // The cell of a row's look: 0 where the column is not in the set.
 fn look_cell(set: ColumnSet, row: &[u64], c: u32) -> u64
     ensures { result ≡ pick (has (cols set) c) (slice_index row.now c) 0 }
 {
-    let Some(column) = Column::new(c) else {
-        return 0;
-    };
-    if set.contains(column) {
-        cell(row, column)
-    } else {
-        0
+    match Column::new(c) {
+        Some(column) if set.contains(column) => cell(row, column),
+        _ => 0,
     }
 }
 
@@ -31,12 +26,12 @@ fn write_row(rest: &mut [u64], set: ColumnSet, row: WholeRow)
     requires { row.width.columns + 1 ≤ length rest.old }
     ensures { rest.new ≡ masked (cols set) 0 row.entry.cells.now ++ (1 ∷ put (drop (row.entry.width.columns + 1) rest.old) row.entry.width.columns 0) }
 {
-    let n = row.width.columns();
-    for c in 0..n {
-        rest[c as usize] = look_cell(set, row.cells, c);
+    let n = row.width.columns() as usize;
+    for (c, slot) in rest[..n].iter_mut().enumerate() {
+        *slot = look_cell(set, row.cells, c as u32);
     }
-    rest[n as usize] = 1;
-    let next = 2 * n as usize + 1;
+    rest[n] = 1;
+    let next = 2 * n + 1;
     if next < rest.len() {
         rest[next] = 0;
     }
@@ -67,11 +62,11 @@ pub(crate) fn count_in(rows: &mut [u64], room: usize, set: ColumnSet, row: Whole
         cells: rows,
     };
     match part.find(set, row.cells) {
-        Place::Held(i) => {
+        Ok(i) => {
             let at = part.start(i);
             rows[at + n] += 1;
         }
-        Place::New(i) => {
+        Err(i) => {
             let at = part.start(i);
             write_row(&mut rows[at..], set, row);
         }

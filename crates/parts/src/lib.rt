@@ -13,14 +13,15 @@ mod looks;
 mod own_part;
 mod part_reading;
 mod part_rows;
+mod parts_left;
 mod reading;
 mod rows_held;
 mod walking;
 mod whole_row;
 
 pub use deeds::{is_present, put_in, take_out};
+pub use dependencies::agrees;
 pub use design_parts::DesignParts;
 pub use held_part::HeldPart;
-pub use looks::agrees;
 pub use part_reading::{part_count, read_part};
 pub use reading::{readable_at, width_to_open};

@@ -3,32 +3,14 @@ ghost use Rattle.std.specs.Prelude.{◌≡◌, ◌<◌, ◌≤◌, length, Match
 ghost use Rattle.columns.specs.Sets.{cols};
 ghost use Rattle.dependencies.specs.Told.{done, refused};
 ghost use Rattle.parts.specs.Answers.{opened_told};
-ghost use Rattle.parts.specs.Parts.{held_by, if_opened, IfOpened, PartAt, NoPart, FromPart};
+ghost use Rattle.parts.specs.Parts.{held_by, if_opened, IfOpened, PartAt, NoPart};
 ghost use Rattle.parts.specs.Store.{no_held, place_in};
 
 use crate::design_parts::DesignParts;
 use crate::held_part::HeldPart;
-use crate::own_part::OwnPart;
 use crate::part_rows::PartRows;
 use crate::reading::readable_at;
 use columns::{ColumnSet, Width};
-
-// The numbers of the design from part p on.
-fn numbers_from<'a>(parts: DesignParts<'a>, p: usize) -> &'a [u64]
-    requires { p < slice_index parts.numbers.now 0 }
-    ensures { FromPart parts.entry.width.columns parts.entry.numbers.now p result.now }
-{
-    let width = parts.width;
-    let mut rest = parts.first();
-    for q in 0..p {
-        let part = OwnPart {
-            width,
-            numbers: rest,
-        };
-        rest = part.rest();
-    }
-    rest
-}
 
 // A part without columns that holds nothing.
 fn no_part<'a>() -> HeldPart<'a>
@@ -42,30 +24,6 @@ fn no_part<'a>() -> HeldPart<'a>
     };
     HeldPart {
         owned: ColumnSet::empty(),
-        rows,
-    }
-}
-
-// Part p: its share of the cells begins behind those of the parts before it.
-fn part_at<'a>(parts: DesignParts, cells: &'a [u64], p: usize) -> HeldPart<'a>
-    requires { p < slice_index parts.numbers.now 0 }
-    ensures { PartAt parts.entry.width.columns parts.entry.numbers.now cells.now p result }
-{
-    let width = parts.width;
-    let room = parts.room(cells.len());
-    let size = parts.size(cells.len());
-    let part = OwnPart {
-        width,
-        numbers: numbers_from(parts, p),
-    };
-    let at = p * size;
-    let rows = PartRows {
-        width,
-        room,
-        cells: &cells[at..at + size],
-    };
-    HeldPart {
-        owned: part.set(),
         rows,
     }
 }
@@ -96,10 +54,13 @@ pub fn read_part<'a>(columns: u64, design: &[u64], cells: &'a [u64], p: usize) -
         width,
         numbers: design,
     };
-    if p >= parts.count() as usize {
-        return no_part();
+    match parts.walk(cells).nth(p) {
+        Some((part, rows)) => HeldPart {
+            owned: part.set(),
+            rows,
+        },
+        None => no_part(),
     }
-    part_at(parts, cells, p)
 }
 
 impl<'a> HeldPart<'a> {
@@ -121,21 +82,16 @@ impl<'a> HeldPart<'a> {
     pub fn look(self, i: usize) -> Option<&'a [u64]>
         ensures { MatchOption result (length (held_by self.entry) ≤ i) (λ x. (i < length (held_by self.entry)) × (x.now ≡ (slice_index_or (held_by self.entry) i no_held).looks)) }
     {
-        if i < self.len() {
-            Some(self.rows.look(i))
-        } else {
-            None
-        }
+        Some(self.rows.rows().nth(i)?.look)
     }
 
     // How many rows have the look of this place; 0 where there is none.
     pub fn times(self, i: usize) -> u64
         ensures { result ≡ (slice_index_or (held_by self.entry) i no_held).times }
     {
-        if i < self.len() {
-            self.rows.times(i)
-        } else {
-            0
+        match self.rows.rows().nth(i) {
+            Some(held) => held.times,
+            None => 0,
         }
     }
 

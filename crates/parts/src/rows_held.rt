@@ -2,22 +2,14 @@
 ghost use Rattle.std.specs.Prelude.{◌≡◌, ◌+◌, ◌*◌, ◌<◌, ◌≤◌, length, take, drop, slice_index};
 ghost use Rattle.columns.specs.Sets.{cols};
 ghost use Rattle.parts.specs.Day.{holds as held_before};
-ghost use Rattle.parts.specs.Store.{held_in, place_in};
+ghost use Rattle.parts.specs.Left.{rows_in, rows_left};
+ghost use Rattle.parts.specs.Store.{place_in};
 ghost use Rattle.parts.specs.Places.{Found};
 ghost use Rattle.parts.specs.Answers.{full as no_more_room};
 
-use crate::looks::agrees;
-use crate::part_rows::PartRows;
+use crate::part_rows::{HeldRow, HeldRows, PartRows};
 use columns::ColumnSet;
-
-// Where a row's look stands in a part.
-#[derive(Clone, Copy)]
-pub(crate) enum Place {
-    // The part holds it there.
-    Held(usize),
-    // The part does not hold it, and holds so many rows: it would stand behind them.
-    New(usize),
-}
+use dependencies::agrees;
 
 impl<'a> PartRows<'a> {
     // How many rows look as row i does; 0 where it is free.
@@ -38,69 +30,95 @@ impl<'a> PartRows<'a> {
         i * (self.width.columns() as usize + 1)
     }
 
-    // The cells of row i.
-    pub(crate) fn look(self, i: usize) -> &'a [u64]
-        requires { i < self.room }
-        ensures { result.now ≡ take self.entry.width.columns (drop (i * (self.entry.width.columns + 1)) self.entry.cells.now) }
+    // The rows that the part holds, one after the other.
+    pub(crate) fn rows(self) -> HeldRows<'a>
+        ensures all { rows_left result ≡ rows_in self.entry }
+        ensures first { result.place ≡ 0 }
     {
-        let n = self.width.columns() as usize;
-        &self.cells[i * (n + 1)..i * (n + 1) + n]
+        HeldRows {
+            place: 0,
+            rows: self,
+        }
     }
 
     // How many rows the part holds.
     pub(crate) fn held(self) -> usize
-        ensures { result ≡ length (held_in self.entry.width.columns self.entry.room self.entry.cells.now) }
+        ensures { result ≡ length (rows_in self.entry) }
     {
-        for i in 0..self.room {
-            if self.times(i) == 0 {
-                return i;
-            }
-        }
-        self.room
+        self.rows().count()
     }
 
-    // Where the part holds what the row looks like, or how many rows it holds if it does not.
-    pub(crate) fn find(self, set: ColumnSet, row: &[u64]) -> Place
-        ensures { Found (cols set) row.now (held_in self.entry.width.columns self.entry.room self.entry.cells.now) result }
+    // Where the part holds what the row looks like, or how many rows it holds if it does not: it would stand behind them.
+    pub(crate) fn find(self, set: ColumnSet, row: &[u64]) -> Result<usize, usize>
+        ensures { Found (cols set) row.now (rows_in self.entry) result }
     {
-        for i in 0..self.room {
-            if self.times(i) == 0 {
-                return Place::New(i);
-            }
-            if agrees(set, row, self.look(i)) {
-                return Place::Held(i);
+        let mut rows = self.rows();
+        while let Some(held) = rows.next() {
+            if agrees(set, row, held.look) {
+                return Ok(held.place);
             }
         }
-        Place::New(self.room)
+        Err(rows.place)
     }
 
     // The place of the look that the row has in the set, or how many rows the part holds.
     pub(crate) fn place_of(self, set: ColumnSet, row: &[u64]) -> usize
-        ensures { result ≡ place_in (cols set) row.now (held_in self.entry.width.columns self.entry.room self.entry.cells.now) }
+        ensures { result ≡ place_in (cols set) row.now (rows_in self.entry) }
     {
         match self.find(set, row) {
-            Place::Held(i) => i,
-            Place::New(i) => i,
+            Ok(i) | Err(i) => i,
         }
     }
 
     // The part holds what the row looks like.
     pub(crate) fn holds(self, set: ColumnSet, row: &[u64]) -> bool
-        ensures { result ≡ held_before (cols set) row.now (held_in self.entry.width.columns self.entry.room self.entry.cells.now) }
+        ensures { result ≡ held_before (cols set) row.now (rows_in self.entry) }
     {
-        match self.find(set, row) {
-            Place::Held(_) => true,
-            Place::New(_) => false,
-        }
+        self.find(set, row).is_ok()
     }
 
     // The part has no room for the row, or has counted its look up to the end.
     pub(crate) fn is_full(self, set: ColumnSet, row: &[u64]) -> bool
-        ensures { result ≡ no_more_room self.entry.room (cols set) row.now (held_in self.entry.width.columns self.entry.room self.entry.cells.now) }
+        ensures { result ≡ no_more_room self.entry.room (cols set) row.now (rows_in self.entry) }
     {
         match self.find(set, row) {
-            Place::Held(i) => self.times(i) >= 4294967295,
-            Place::New(held) => held >= self.room,
+            Ok(i) => self.times(i) >= u32::MAX as u64,
+            Err(held) => held >= self.room,
         }
+    }
+}
+
+impl<'a> Iterator for HeldRows<'a> {
+    ghost use Rattle.std.specs.Iterator.{item_count};
+    ghost use Rattle.parts.specs.Left.{rows_left, GivesRow};
+
+    type Item = HeldRow<'a>;
+
+    ghost next_gives = { GivesRow };
+
+    ghost remaining = { item_count rows_left };
+
+    fn next(&mut self) -> Option<HeldRow<'a>> {
+        let PartRows { width, room, cells } = self.rows;
+        if room == 0 {
+            return None;
+        }
+        let n = width.columns() as usize;
+        let (row, behind) = cells.split_at(n + 1);
+        if row[n] == 0 {
+            return None;
+        }
+        let held = HeldRow {
+            place: self.place,
+            look: &row[..n],
+            times: row[n],
+        };
+        self.place += 1;
+        self.rows = PartRows {
+            width,
+            room: room - 1,
+            cells: behind,
+        };
+        Some(held)
     }
 }

@@ -149,12 +149,6 @@ slot_fits n len e k m q l h =
     omega arith
 
 -- the fewer of two counts
-pub fewer_first : (x y a b : ℕ) → x ≡ a → y ≡ b → x < y → x ≡ pick (ltb a b) a b
-fewer_first x y a b e f l = e ∙ sym (ap (λ (t : Bool). pick t a b) (lt-ltb a b (omega arith)))
-
-pub fewer_other : (x y a b : ℕ) → x ≡ a → y ≡ b → y ≤ x → y ≡ pick (ltb a b) a b
-fewer_other x y a b e f l = f ∙ sym (ap (λ (t : Bool). pick t a b) (le-ltb a b (omega arith)))
-
 -- ---- what stands behind
 pub drop_min : (bs : List ℕ) (s m : ℕ) → m ≡ min s (length bs) → drop m bs ≡ drop s bs
 drop_min bs s m e =

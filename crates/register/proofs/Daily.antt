@@ -2,9 +2,9 @@
 use Rattle.std.proofs.Common.{◌≡◌, ℕ, zero, suc, ◌+◌, ◌-◌, ◌*◌, ◌/◌, ◌<◌, ◌≤◌, Bool, false, eqb, List, [], ◌∷◌, ◌++◌, length, get_or, take, drop, set, Ok, Err, Result, sym, refl, ap, ◌∙◌, subst, ap₂, append_assoc, arith}
 use borrow.Rule.Slice.PartMut.{put_mid}
 use Rattle.std.proofs.lemmas.Nat.{div-add-mod', mul-le}
-use Rattle.std.proofs.lemmas.List.{take-take, take_rest, length-drop, drop-drop, take-append-drop, append-nil}
+use Rattle.std.proofs.lemmas.List.{take_rest, length-drop, drop-drop, take-append-drop, append-nil}
 use Rattle.std.proofs.lemmas.Slice.{take-put_mid, drop-put_mid}
-use Rattle.std.proofs.lemmas.Bool.{eq-eqb, ne_eqb, lt-ltb, le-ltb}
+use Rattle.std.proofs.lemmas.Bool.{lt-ltb, le-ltb}
 use Rattle.columns.specs.Cols.{pick}
 use Rattle.dependencies.specs.Tables.{Row}
 use Rattle.dependencies.specs.Told.{Told, told, number, place}
@@ -15,6 +15,8 @@ use Rattle.schema.specs.Layout.{design_in}
 use Rattle.parts.specs.Day.{Deed, insert, remove, Held}
 use Rattle.parts.specs.Store.{room_of, held_of, CleanCells}
 use Rattle.parts.specs.Answers.{outcome, After}
+use Rattle.register.specs.Kinds.{asks}
+use Rattle.register.specs.declared.deed_kind_type.DeedKind.{DeedKind}
 use Rattle.register.specs.Deeds.{deed_in, deeds_in, most_deeds, day_of, deed_told, deed_held, is_done, deed_after, day_told, day_end, answers_of, DeedsKept}
 use Rattle.parts.proofs.Spaces.{suc_row}
 
@@ -31,27 +33,15 @@ two_written (x ∷ []) a b e = absurd (omega arith)
 two_written (x ∷ y ∷ []) a b e = refl
 two_written (x ∷ y ∷ z ∷ s) a b e = absurd (omega arith)
 
--- the deed that the numbers are
-module _ (n : ℕ) (deed : List ℕ) (long : length deed ≡ n + 1) where
-  row_is : take (length deed - 1) (drop 1 deed) ≡ take n (drop 1 deed)
-  row_is = let z : length deed - 1 ≡ n = omega arith in ap (λ (k : ℕ). take k (drop 1 deed)) z
-
-  pub put_deed : get_or deed 0 0 ≡ 0 → insert (take (length deed - 1) (drop 1 deed)) ≡ deed_in n deed
-  unfolding deed_in
-  put_deed e = ap insert row_is ∙ sym (ap (λ (b : Bool). pick b (insert (take n (drop 1 deed))) (remove (take n (drop 1 deed)))) (eq-eqb (get_or deed 0 0) 0 e))
-
-  pub take_deed : (get_or deed 0 0 ≡ 0 → ⊥) → remove (take (length deed - 1) (drop 1 deed)) ≡ deed_in n deed
-  unfolding deed_in
-  take_deed e = ap remove row_is ∙ sym (ap (λ (b : Bool). pick b (insert (take n (drop 1 deed))) (remove (take n (drop 1 deed)))) (ne_eqb (get_or deed 0 0) 0 e))
-
--- what stands behind a deed does not matter
-one_deed : (n : ℕ) (xs : List ℕ) → deed_in n (take (suc n) xs) ≡ deed_in n xs
+-- the deed that a kind and the cells behind its number are
+pub asked_deed : (n len : ℕ) (left : List ℕ) (kind : DeedKind)
+    → ((r : Row) → asks kind r ≡ pick (eqb (get_or left 0 0) 0) (insert r) (remove r)) → len ≡ n + 1
+    → asks kind (take (len - 1) (drop 1 left)) ≡ deed_in n left
 unfolding deed_in
-one_deed n [] = refl
-one_deed n (x ∷ xs) = ap (λ (r : Row). pick (eqb x 0) (insert r) (remove r)) (take-take n n xs (omega arith))
-
-deed_front : (n : ℕ) (xs : List ℕ) → deed_in n (take (n + 1) xs) ≡ deed_in n xs
-deed_front n xs = let z : n + 1 ≡ suc n = omega arith in ap (λ (k : ℕ). deed_in n (take k xs)) z ∙ one_deed n xs
+asked_deed n len left kind is long =
+    let z : len - 1 ≡ n = omega arith in
+    is (take (len - 1) (drop 1 left))
+    ∙ ap (λ (k : ℕ). pick (eqb (get_or left 0 0) 0) (insert (take k (drop 1 left))) (remove (take k (drop 1 left)))) z
 
 deeds_more : (n k : ℕ) (xs : List ℕ) → 0 < k → get_or xs 0 0 ≤ 1 → deeds_in n k xs ≡ deed_in n xs ∷ deeds_in n (k - 1) (drop (n + 1) xs)
 unfolding deeds_in
@@ -134,19 +124,18 @@ module _ (n k : ℕ) (d start xs out : List ℕ) (e : ℕ) (g left out₁ : List
       omega (arith, w.long)
 
   pub kept_next : {A : Type 0} (len : ℕ) (g₁ slot behind : List ℕ) (a : Result A Refusal) → e < k → 2 * e + 2 ≤ length out₁ → length g ≡ length start → len ≡ n + 1 → get_or left 0 0 ≤ 1
-      → outcome a ≡ deed_told n (room_of n d g) (design_in n d) (held_of n d g) (deed_in n (take (len - 0) left))
-      → After n d g g₁ (deed_held (design_in n d) (held_of n d g) (deed_in n (take (len - 0) left))) a
+      → (asked : Deed) → asked ≡ deed_in n left
+      → outcome a ≡ deed_told n (room_of n d g) (design_in n d) (held_of n d g) asked
+      → After n d g g₁ (deed_held (design_in n d) (held_of n d g) asked) a
       → slot ≡ number (outcome a) ∷ place (outcome a) ∷ [] → behind ≡ take (length left - len) (drop len left)
       → KeptSoFar n k d start xs out (e + 1) g₁ behind (put_mid (2 * e) (2 * e + 2 - 2 * e) out₁ slot)
   unfolding day_told day_end answers_of
-  kept_next len g₁ slot behind a l room same is small t f s b =
+  kept_next len g₁ slot behind a l room same is small asked deed t f s b =
       let E : Deed = deed_in n left in
       let R : ℕ = room_of n d start in
       let PS : List Part = design_in n d in
       let HS : List (List Held) = held_of n d g in
       let r : room_of n d g ≡ R = ap (λ (z : ℕ). z / (get_or d 0 0 * (n + 1))) same in
-      let lz : len - 0 ≡ n + 1 = omega arith in
-      let deed : deed_in n (take (len - 0) left) ≡ E = ap (λ (z : ℕ). deed_in n (take z left)) lz ∙ deed_front n left in
       let t' : outcome a ≡ deed_told n R PS HS E = t ∙ ap₂ (λ (z : ℕ) (x : Deed). deed_told n z PS HS x) r deed in
       let h : held_of n d g₁ ≡ deed_after n R PS HS E
       = after_held n d g g₁ _ a f ∙ ap₂ (λ (z : Told) (x : Deed). pick (is_done z) (deed_held PS HS x) HS) t' deed in

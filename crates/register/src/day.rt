@@ -4,29 +4,32 @@ ghost use Rattle.columns.specs.Cols.{pick};
 ghost use Rattle.dependencies.specs.Told.{number as number_of, place as place_of};
 ghost use Rattle.dependencies.specs.Layout.{columns_of};
 ghost use Rattle.dependencies.specs.Bytes.{row_of_bytes};
-ghost use Rattle.schema.specs.Layout.{design_in};
-ghost use Rattle.parts.specs.Store.{room_of, held_of};
-ghost use Rattle.parts.specs.Answers.{outcome, opening, After, columns_after};
-ghost use Rattle.register.specs.Deeds.{deed_in, deed_told, deed_held, DeedsKept, DaySays};
+ghost use Rattle.parts.specs.Left.{design_of, part_room, held_parts, PartsAfter};
+ghost use Rattle.parts.specs.Answers.{outcome, opening, columns_after};
+ghost use Rattle.register.specs.Deeds.{deed_told, deed_held, DeedsKept, DaySays};
+ghost use Rattle.register.specs.Kinds.{asks};
 ghost use Rattle.register.specs.DayBytes.{bytes_behind_rules, ByteDaySays};
 
 use crate::day_bytes::{behind_rules, deeds_from_bytes};
+use crate::deed_kind_type::DeedKind;
 use crate::register::Register;
 use columns::Width;
 use dependencies::{Refusal, rule_row};
 use parts::{DesignParts, put_in, take_out, width_to_open};
 
-// One deed: 0 and a row to put in, or 1 and a row to take out.
-fn do_deed(parts: DesignParts, cells: &mut [u64], deed: &[u64]) -> Result<(), Refusal>
-    requires { length deed.now ≡ parts.width.columns + 1 }
-    ensures told { outcome result ≡ deed_told parts.entry.width.columns (room_of parts.entry.width.columns parts.entry.numbers.now cells.old) (design_in parts.entry.width.columns parts.entry.numbers.now) (held_of parts.entry.width.columns parts.entry.numbers.now cells.old) (deed_in parts.entry.width.columns deed.now) }
-    ensures after { After parts.entry.width.columns parts.entry.numbers.now cells.old cells.new (deed_held (design_in parts.entry.width.columns parts.entry.numbers.now) (held_of parts.entry.width.columns parts.entry.numbers.now cells.old) (deed_in parts.entry.width.columns deed.now)) result }
+// One deed.
+fn do_deed(
+    parts: DesignParts,
+    cells: &mut [u64],
+    kind: DeedKind,
+    row: &[u64],
+) -> Result<(), Refusal>
+    ensures told { outcome result ≡ deed_told parts.entry.width.columns (part_room parts.entry cells.old) (design_of parts.entry) (held_parts parts.entry cells.old) (asks kind row.now) }
+    ensures after { PartsAfter parts.entry cells.old cells.new (deed_held (design_of parts.entry) (held_parts parts.entry cells.old) (asks kind row.now)) result }
 {
-    let row = &deed[1..];
-    if deed[0] == 0 {
-        put_in(parts, cells, row)
-    } else {
-        take_out(parts, cells, row)
+    match kind {
+        DeedKind::PutIn => put_in(parts, cells, row),
+        DeedKind::TakeOut => take_out(parts, cells, row),
     }
 }
 
@@ -53,9 +56,7 @@ fn deed_count(deeds: usize, answers: usize, width: Width) -> usize
     ensures whole { result * (width.columns + 1) ≤ deeds }
     ensures room { 2 * result ≤ answers }
 {
-    let whole = deeds / (width.columns() as usize + 1);
-    let room = answers / 2;
-    if whole < room { whole } else { room }
+    (deeds / (width.columns() as usize + 1)).min(answers / 2)
 }
 
 // Does the deeds one after the other, and writes what is told of each.
@@ -65,11 +66,12 @@ fn keep_deeds(parts: DesignParts, cells: &mut [u64], deeds: &[u64], answers: &mu
     let most = deed_count(deeds.len(), answers.len(), parts.width);
     let len = parts.width.columns() as usize + 1;
     let mut left = deeds;
+    // Counted, since how many deeds were answered is what is told.
     for e in 0..most {
-        if left[0] > 1 {
+        let Some(kind) = DeedKind::from_number(left[0]) else {
             return e;
-        }
-        let told = do_deed(parts, cells, &left[0..len]);
+        };
+        let told = do_deed(parts, cells, kind, &left[1..len]);
         write_answer(&mut answers[2 * e..2 * e + 2], told);
         left = &left[len..];
     }
@@ -91,16 +93,7 @@ impl<'d, 'c> Register<'d, 'c> {
         ensures width { self.new.columns ≡ columns_after (columns_of rules.now) self.old.columns result }
         ensures plan { self.new.design.now ≡ self.old.design.now }
     {
-        let width = match width_to_open(rules, self.design) {
-            Ok(width) => width,
-            Err(refusal) => return Err(refusal),
-        };
-        self.cells.fill(0);
-        self.columns = width.columns() as u64;
-        let parts = DesignParts {
-            width,
-            numbers: self.design,
-        };
+        let parts = self.begin(rules)?;
         Ok(keep_deeds(parts, self.cells, deeds, answers))
     }
 
@@ -118,10 +111,7 @@ impl<'d, 'c> Register<'d, 'c> {
         ensures plan { self.new.design.now ≡ self.old.design.now }
     {
         let row = rule_row(bytes);
-        let width = match width_to_open(row.numbers(), self.design) {
-            Ok(width) => width,
-            Err(refusal) => return Err(refusal),
-        };
+        let width = width_to_open(row.numbers(), self.design)?;
         let count = deeds_from_bytes(behind_rules(bytes), width, deeds);
         let read = &deeds[0..count * (width.columns() as usize + 1)];
         self.keep_day(row.numbers(), read, answers)

@@ -2,6 +2,7 @@
 ghost use Rattle.std.specs.Prelude.{◌≡◌, ◌+◌, ◌*◌, ◌≤◌, length, drop};
 ghost use Rattle.register.specs.DayBytes.{bytes_behind_rules, deed_bytes, cell_of_bytes, cells_of_bytes, deed_of_bytes, whole_deeds, lent_after, rest_is};
 
+use crate::deed_kind_type::DeedKind;
 use columns::Width;
 
 // What stands behind the deeds of a day that were answered.
@@ -40,8 +41,7 @@ fn first_cell(bytes: &[u8]) -> u64
     requires { 4 ≤ length bytes.now }
     ensures { result ≡ cell_of_bytes bytes.now }
 {
-    let low = bytes[0] as u64 + 256 * bytes[1] as u64;
-    low + 65536 * bytes[2] as u64 + 16777216 * bytes[3] as u64
+    u32::from_le_bytes([bytes[0], bytes[1], bytes[2], bytes[3]]) as u64
 }
 
 // Writes a row's cells.
@@ -50,8 +50,8 @@ fn write_cells(bytes: &[u8], cells: &mut [u64])
     ensures { cells.new ≡ cells_of_bytes (length cells.old) bytes.now }
 {
     let mut left = bytes;
-    for c in 0..cells.len() {
-        cells[c] = first_cell(left);
+    for cell in cells.iter_mut() {
+        *cell = first_cell(left);
         left = &left[4..];
     }
 }
@@ -72,9 +72,7 @@ fn whole_deed_count(bytes: &[u8], width: Width, deeds: &[u64]) -> usize
     ensures whole { result * deed_bytes width.columns ≤ length bytes.now }
     ensures room { result * (width.columns + 1) ≤ length deeds.now }
 {
-    let whole = bytes.len() / deed_size(width);
-    let room = deeds.len() / (width.columns() as usize + 1);
-    if whole < room { whole } else { room }
+    (bytes.len() / deed_size(width)).min(deeds.len() / (width.columns() as usize + 1))
 }
 
 // Reads the deeds of a day, the bytes behind its rules, into a lent row: as many as stand there whole and have room.
@@ -88,6 +86,7 @@ pub fn deeds_from_bytes(bytes: &[u8], width: Width, deeds: &mut [u64]) -> usize
     let size = deed_size(width);
     let len = width.columns() as usize + 1;
     let mut left = bytes;
+    // Counted, since with `chunks_exact_mut` the proof of what the row holds in the end did not close.
     for e in 0..count {
         write_deed(left, width, &mut deeds[e * len..e * len + len]);
         left = &left[size..];
@@ -107,9 +106,9 @@ pub fn day_rest(bytes: &[u8], width: Width, answered: usize) -> DayRest
     if left.len() == 0 {
         return DayRest::Ended;
     }
-    if left[0] > 1 {
+    let Some(_) = DeedKind::from_number(left[0] as u64) else {
         return DayRest::NoDeed;
-    }
+    };
     if left.len() >= size {
         return DayRest::Unanswered;
     }

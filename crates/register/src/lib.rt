@@ -4,6 +4,8 @@
 
 mod day;
 mod day_bytes;
+mod deed_kind;
+mod deed_kind_type;
 mod part_reading;
 mod register;
 mod theorems;

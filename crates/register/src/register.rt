@@ -1,11 +1,10 @@
 // A register over a lent design and lent cells.
-ghost use Rattle.std.specs.Prelude.{◌≡◌, true, length, replicate, MatchOption};
-ghost use Rattle.schema.specs.Layout.{design_in};
-ghost use Rattle.dependencies.specs.Told.{done, refused, or_else};
+ghost use Rattle.std.specs.Prelude.{◌≡◌, length, IfOk, MatchResult};
 ghost use Rattle.dependencies.specs.Layout.{columns_of};
+ghost use Rattle.dependencies.specs.Told.{done, told, or_else};
 ghost use Rattle.parts.specs.Day.{all_more, all_less};
-ghost use Rattle.parts.specs.Store.{readable, room_of, held_of};
-ghost use Rattle.parts.specs.Answers.{outcome, opening, opened_told, put_told, take_told, asked_told, Asks, After, Opened};
+ghost use Rattle.parts.specs.Answers.{outcome, opening, put_told, take_told, asked_told, Asks, Opened};
+ghost use Rattle.register.specs.States.{opened, parts_in, room_in, held_in, SamePlan, Leaves};
 
 use dependencies::{Condition, Refusal};
 use parts::{DesignParts, is_present, put_in, readable_at, take_out, width_to_open};
@@ -33,6 +32,22 @@ impl<'d, 'c> Register<'d, 'c> {
         }
     }
 
+    // Reads the rules and the design, and clears all cells whatever they held.
+    pub(crate) fn begin(&mut self, rules: &[u64]) -> Result<DesignParts<'d>, Refusal>
+        ensures told { outcome result ≡ opening rules.now self.old.design.now }
+        ensures after { Opened (columns_of rules.now) self.old.columns self.new.columns self.old.cells.now self.new.cells.now result }
+        ensures parts { IfOk result (λ p. (p.width.columns ≡ columns_of rules.now) × (p.numbers.now ≡ self.old.design.now)) }
+        ensures plan { self.new.design.now ≡ self.old.design.now }
+    {
+        let width = width_to_open(rules, self.design)?;
+        self.cells.fill(0);
+        self.columns = width.columns() as u64;
+        Ok(DesignParts {
+            width,
+            numbers: self.design,
+        })
+    }
+
     // Reads the rules and the design, and clears all cells whatever they held: no part holds anything.
     // Whether the design is one for the rules is not tested here.
     pub fn open(&mut self, rules: &[u64]) -> Result<(), Refusal>
@@ -40,61 +55,51 @@ impl<'d, 'c> Register<'d, 'c> {
         ensures after { Opened (columns_of rules.now) self.old.columns self.new.columns self.old.cells.now self.new.cells.now result }
         ensures plan { self.new.design.now ≡ self.old.design.now }
     {
-        let width = match width_to_open(rules, self.design) {
-            Ok(width) => width,
-            Err(refusal) => return Err(refusal),
-        };
-        self.cells.fill(0);
-        self.columns = width.columns() as u64;
+        self.begin(rules)?;
         Ok(())
     }
 
-    // Puts a row in.
-    pub fn insert(&mut self, row: &[u64]) -> Result<(), Refusal>
-        ensures told { outcome result ≡ or_else (opened_told self.old.columns self.old.design.now) (put_told self.old.columns (room_of self.old.columns self.old.design.now self.old.cells.now) (design_in self.old.columns self.old.design.now) (held_of self.old.columns self.old.design.now self.old.cells.now) row.now) }
-        ensures after { After self.old.columns self.old.design.now self.old.cells.now self.new.cells.now (all_more (design_in self.old.columns self.old.design.now) (held_of self.old.columns self.old.design.now self.old.cells.now) row.now) result }
-        ensures plan { (self.new.columns ≡ self.old.columns) × (self.new.design.now ≡ self.old.design.now) }
-        ensures long { length self.new.cells.now ≡ length self.old.cells.now }
+    // The parts of the design; 6 at 1 in a register that was never opened.
+    fn opened_parts(&self) -> Result<DesignParts<'d>, Refusal>
+        ensures { MatchResult result (λ p. (opened self.now ≡ done) × (p.width.columns ≡ self.now.columns) × (p.numbers.now ≡ self.now.design.now)) (λ e. opened self.now ≡ told e) }
     {
         let Some(width) = readable_at(self.columns, self.design) else {
             return Err(Refusal::NotADesign(Condition::Covers));
         };
-        let parts = DesignParts {
+        Ok(DesignParts {
             width,
             numbers: self.design,
-        };
+        })
+    }
+
+    // Puts a row in.
+    pub fn insert(&mut self, row: &[u64]) -> Result<(), Refusal>
+        ensures told { outcome result ≡ or_else (opened self.old) (put_told self.old.columns (room_in self.old) (parts_in self.old) (held_in self.old) row.now) }
+        ensures after { Leaves self.old self.new (all_more (parts_in self.old) (held_in self.old) row.now) result }
+        ensures plan { SamePlan self.old self.new }
+        ensures long { length self.new.cells.now ≡ length self.old.cells.now }
+    {
+        let parts = self.opened_parts()?;
         put_in(parts, self.cells, row)
     }
 
     // Takes a row out.
     pub fn remove(&mut self, row: &[u64]) -> Result<(), Refusal>
-        ensures told { outcome result ≡ or_else (opened_told self.old.columns self.old.design.now) (take_told self.old.columns (design_in self.old.columns self.old.design.now) (held_of self.old.columns self.old.design.now self.old.cells.now) row.now) }
-        ensures after { After self.old.columns self.old.design.now self.old.cells.now self.new.cells.now (all_less (design_in self.old.columns self.old.design.now) (held_of self.old.columns self.old.design.now self.old.cells.now) row.now) result }
-        ensures plan { (self.new.columns ≡ self.old.columns) × (self.new.design.now ≡ self.old.design.now) }
+        ensures told { outcome result ≡ or_else (opened self.old) (take_told self.old.columns (parts_in self.old) (held_in self.old) row.now) }
+        ensures after { Leaves self.old self.new (all_less (parts_in self.old) (held_in self.old) row.now) result }
+        ensures plan { SamePlan self.old self.new }
         ensures long { length self.new.cells.now ≡ length self.old.cells.now }
     {
-        let Some(width) = readable_at(self.columns, self.design) else {
-            return Err(Refusal::NotADesign(Condition::Covers));
-        };
-        let parts = DesignParts {
-            width,
-            numbers: self.design,
-        };
+        let parts = self.opened_parts()?;
         take_out(parts, self.cells, row)
     }
 
     // Whether a row is present.
     pub fn contains(&self, row: &[u64]) -> Result<bool, Refusal>
-        ensures told { outcome result ≡ or_else (opened_told self.now.columns self.now.design.now) (asked_told self.now.columns row.now) }
-        ensures asked { Asks self.now.columns (design_in self.now.columns self.now.design.now) (held_of self.now.columns self.now.design.now self.now.cells.now) row.now result }
+        ensures told { outcome result ≡ or_else (opened self.now) (asked_told self.now.columns row.now) }
+        ensures asked { Asks self.now.columns (parts_in self.now) (held_in self.now) row.now result }
     {
-        let Some(width) = readable_at(self.columns, self.design) else {
-            return Err(Refusal::NotADesign(Condition::Covers));
-        };
-        let parts = DesignParts {
-            width,
-            numbers: self.design,
-        };
+        let parts = self.opened_parts()?;
         is_present(parts, self.cells, row)
     }
 }

@@ -2,7 +2,7 @@
 use crate::day_bytes::{DayRest, behind_rules, day_rest};
 use crate::register::Register;
 use columns::Width;
-use dependencies::Refusal;
+use dependencies::{Condition, Refusal};
 use std::test::Fail;
 
 // Columns: organ, parish, diocese, builder, tuner, day. 0 fixes 1 and 3; 1 fixes 2; 4 and 5 fix 0; 0 and 5 fix 4.
@@ -10,43 +10,6 @@ const RULES: [u64; 10] = [6, 4, 1, 10, 2, 4, 48, 1, 33, 16];
 
 // Parts 0 1 3 with 0>1 and 0>3; 1 2 with 1>2; 0 4 5 with 4 5>0 and 0 5>4.
 const DESIGN: [u64; 17] = [3, 11, 2, 1, 2, 1, 8, 6, 1, 2, 4, 49, 2, 48, 1, 33, 16];
-
-// A refusal's number and place in one number, 0 where it is done.
-fn told(answer: Result<(), Refusal>) -> u64 {
-    match answer {
-        Ok(_) => 0,
-        Err(refusal) => refusal
-            .number()
-            .saturating_mul(1000)
-            .saturating_add(refusal.place()),
-    }
-}
-
-fn open(register: &mut Register) -> u64 {
-    told(register.open(&RULES))
-}
-
-fn put(register: &mut Register, row: &[u64]) -> u64 {
-    told(register.insert(row))
-}
-
-fn take(register: &mut Register, row: &[u64]) -> u64 {
-    told(register.remove(row))
-}
-
-fn present(register: &Register, row: &[u64]) -> bool {
-    match register.contains(row) {
-        Ok(present) => present,
-        Err(_) => false,
-    }
-}
-
-fn day(register: &mut Register, deeds: &[u64], answers: &mut [u64]) -> usize {
-    match register.keep_day(&RULES, deeds, answers) {
-        Ok(count) => count,
-        Err(_) => 0,
-    }
-}
 
 #[test]
 fn organs_day(rt: HostRuntime) {
@@ -59,7 +22,7 @@ fn organs_day(rt: HostRuntime) {
         5,
     ];
     let mut register = Register::over(&DESIGN, &mut cells);
-    assert_eq!(rt; day(&mut register, &deeds, &mut answers), 11);
+    assert_eq!(rt; register.keep_day(&RULES, &deeds, &mut answers), Ok(11));
     assert!(rt;
         answers
             == [
@@ -81,9 +44,12 @@ fn organs_day(rt: HostRuntime) {
 fn no_room_in_a_later_part(rt: HostRuntime) {
     let mut cells = [9; 21];
     let mut register = Register::over(&DESIGN, &mut cells);
-    assert_eq!(rt; open(&mut register), 0);
-    assert_eq!(rt; put(&mut register, &[10, 1, 100, 7, 50, 3]), 0);
-    assert_eq!(rt; put(&mut register, &[10, 1, 100, 7, 51, 4]), 11002);
+    assert_eq!(rt; register.open(&RULES), Ok(()));
+    assert_eq!(rt; register.insert(&[10, 1, 100, 7, 50, 3]), Ok(()));
+    assert_eq!(rt;
+        register.insert(&[10, 1, 100, 7, 51, 4]),
+        Err(Refusal::PartFull(2))
+    );
     assert!(rt;
         cells
             == [
@@ -97,12 +63,15 @@ fn no_room_in_a_later_part(rt: HostRuntime) {
 fn rows_that_look_alike(rt: HostRuntime) {
     let mut cells = [9; 42];
     let mut register = Register::over(&DESIGN, &mut cells);
-    assert_eq!(rt; open(&mut register), 0);
-    assert_eq!(rt; put(&mut register, &[10, 1, 100, 7, 50, 3]), 0);
-    assert_eq!(rt; put(&mut register, &[10, 1, 100, 7, 51, 4]), 0);
-    assert_eq!(rt; take(&mut register, &[10, 1, 100, 7, 50, 4]), 10000);
-    assert_eq!(rt; take(&mut register, &[10, 1, 100, 7, 50, 3]), 0);
-    assert!(rt; !present(&register, &[10, 1, 100, 7, 50, 3]));
+    assert_eq!(rt; register.open(&RULES), Ok(()));
+    assert_eq!(rt; register.insert(&[10, 1, 100, 7, 50, 3]), Ok(()));
+    assert_eq!(rt; register.insert(&[10, 1, 100, 7, 51, 4]), Ok(()));
+    assert_eq!(rt;
+        register.remove(&[10, 1, 100, 7, 50, 4]),
+        Err(Refusal::Absent)
+    );
+    assert_eq!(rt; register.remove(&[10, 1, 100, 7, 50, 3]), Ok(()));
+    assert_eq!(rt; register.contains(&[10, 1, 100, 7, 50, 3]), Ok(false));
     assert!(rt;
         cells
             == [
@@ -116,13 +85,22 @@ fn rows_that_look_alike(rt: HostRuntime) {
 fn refused_requests(rt: HostRuntime) {
     let mut cells = [9; 21];
     let mut register = Register::over(&DESIGN, &mut cells);
-    assert_eq!(rt; put(&mut register, &[10, 1, 100, 7, 50, 3]), 6001);
-    assert_eq!(rt; open(&mut register), 0);
-    assert_eq!(rt; put(&mut register, &[10, 1, 100, 7, 50]), 7005);
-    assert_eq!(rt; take(&mut register, &[]), 7000);
+    assert_eq!(rt;
+        register.insert(&[10, 1, 100, 7, 50, 3]),
+        Err(Refusal::NotADesign(Condition::Covers))
+    );
+    assert_eq!(rt; register.open(&RULES), Ok(()));
+    assert_eq!(rt;
+        register.insert(&[10, 1, 100, 7, 50]),
+        Err(Refusal::Cells(5))
+    );
+    assert_eq!(rt; register.remove(&[]), Err(Refusal::Cells(0)));
     let mut other = [9; 21];
     let mut cut = Register::over(&DESIGN[0..16], &mut other);
-    assert_eq!(rt; open(&mut cut), 6001);
+    assert_eq!(rt;
+        cut.open(&RULES),
+        Err(Refusal::NotADesign(Condition::Covers))
+    );
     assert!(rt; other == [9; 21]);
 }
 
@@ -138,10 +116,8 @@ fn day_as_bytes(rt: HostRuntime) {
     let mut deeds = [5; 7];
     let mut answers = [5; 5];
     let mut register = Register::over(&design, &mut cells);
-    match register.keep_day_from_bytes(&BYTES, &mut deeds, &mut answers) {
-        Ok(answered) => assert_eq!(rt; answered, 2),
-        Err(_) => assert!(rt; false, "the day was refused"),
-    }
+    let answered = register.keep_day_from_bytes(&BYTES, &mut deeds, &mut answers);
+    assert_eq!(rt; answered, Ok(2));
     assert!(rt; deeds == [0, 1, 258, 0, 1, 259, 5]);
     assert!(rt; answers == [0, 0, 9, 0, 5]);
     assert!(rt; cells == [1, 258, 1, 0, 0, 0, 0]);

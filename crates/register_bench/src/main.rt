@@ -10,15 +10,8 @@ use schema::design_for;
 use std::io::Read;
 
 fn show_counts(rt: &HostRuntime, answers: &[u64]) -> anyhow::Result<()> {
-    let mut done = 0u64;
-    let mut refused = 0u64;
-    for i in 0..answers.len() / 2 {
-        if answers[2 * i] == 0 {
-            done = done.wrapping_add(1);
-        } else {
-            refused = refused.wrapping_add(1);
-        }
-    }
+    let done = answers.iter().step_by(2).filter(|x| **x == 0).count();
+    let refused = answers.len().div_ceil(2).saturating_sub(done);
     Ok(println!(rt; "{done} done, {refused} refused")?)
 }
 
@@ -52,7 +45,7 @@ fn main(rt: HostRuntime) -> anyhow::Result<()> {
     let [a, b, c, d, bytes @ ..] = input.as_slice() else {
         return Err(anyhow!("{:?}", "no day"));
     };
-    let room = *a as usize + 256 * *b as usize + 65536 * *c as usize + 16777216 * *d as usize;
+    let room = u32::from_le_bytes([*a, *b, *c, *d]) as usize;
     match rules_from_bytes(bytes) {
         Ok(set) => keep(&rt, set.width(), room, bytes),
         Err(refusal) => Ok(println!(rt; "{refusal}")?),

@@ -7,6 +7,7 @@ pub mod ThirdForms
 pub mod TwoParts
 pub mod Gathering
 pub mod Sifting
+pub mod Tested
 pub mod Written
 pub mod Wide
 pub mod Merged

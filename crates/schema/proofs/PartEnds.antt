@@ -17,11 +17,6 @@ pub record Ended (out : List ℕ) (p at : ℕ) : Type 0 where
   pub within : at ≤ length out
   pub left : at + extent (get_or out 0 0 - p) (drop at out) ≡ extent_of_design out
 
-pub ended_start : (out : List ℕ) → 0 < length out → Ended out 0 1
-ended_start out h =
-    let e : get_or out 0 0 - 0 ≡ get_or out 0 0 = omega arith in
-    record { within = omega arith; left = ap (λ (k : ℕ). 1 + extent k (drop 1 out)) e }
-
 module _ (out : List ℕ) (p at : ℕ) (so : Ended out p at) (more : p < get_or out 0 0) where
   abbrev row : List ℕ
   row = take (length out - at) (drop at out)

@@ -1,10 +1,10 @@
--- To leave out of an array, place by place, what a test holds of: the others move up, in order.
-use Rattle.std.proofs.Common.{◌≡◌, ℕ, suc, ◌+◌, ◌<◌, ◌≤◌, Bool, true, false, ◌||◌, List, [], ◌∷◌, ◌++◌, length, get_or, take, drop, set, sym, refl, ap, ◌∙◌, inl, inr, arith}
-use Rattle.std.proofs.lemmas.List.{take_more, drop_more, take_more_set, drop-set-lt, append-nil, length-set}
-use Rattle.columns.specs.Cols.{pick}
-use Rattle.columns.specs.Every.{any}
+-- The two sides of a test, one member more, and what is left out of a bounded list.
+use Rattle.std.proofs.Common.{cond, not, filter, ◌≡◌, suc, ◌+◌, ◌≤◌, Bool, true, false, List, [], ◌∷◌, ◌++◌, length, refl, ap, inl, inr, arith}
+use Rattle.columns.specs.Cols.{pick, all_in}
 use Rattle.columns.specs.Members.{Sub}
-use Rattle.columns.proofs.Lists.{or_assoc}
+use Rattle.columns.specs.Sets.{cols}
+use Rattle.columns.specs.declared.set.ColumnSet.{ColumnSet}
+use Rattle.schema.specs.Sets.{outside}
 use Rattle.schema.specs.Sides.{those, others}
 
 module _ {A : Type 0} (f : A → Bool) where
@@ -16,15 +16,6 @@ module _ {A : Type 0} (f : A → Bool) where
           → pick b (y ∷ those f (xs ++ x ∷ [])) (those f (xs ++ x ∷ [])) ≡ pick b (y ∷ those f xs) (those f xs) ++ pick (f x) (x ∷ []) []
       go true e = ap (λ v. y ∷ v) e
       go false e = e
-
-  pub others_push : (xs : List A) (x : A) → others f (xs ++ x ∷ []) ≡ others f xs ++ pick (f x) [] (x ∷ [])
-  others_push [] x = refl
-  others_push (y ∷ xs) x = go (f y) (others_push xs x)
-    where
-      go : (b : Bool) → others f (xs ++ x ∷ []) ≡ others f xs ++ pick (f x) [] (x ∷ [])
-          → pick b (others f (xs ++ x ∷ [])) (y ∷ others f (xs ++ x ∷ [])) ≡ pick b (others f xs) (y ∷ others f xs) ++ pick (f x) [] (x ∷ [])
-      go true e = e
-      go false e = ap (λ v. y ∷ v) e
 
   pub those_sub : (xs : List A) → Sub (those f xs) xs
   those_sub [] = λ x i. i
@@ -52,60 +43,15 @@ module _ {A : Type 0} (f : A → Bool) where
       go true h = omega arith
       go false h = omega arith
 
-  pub any_push : (xs : List A) (x : A) → any (xs ++ x ∷ []) f ≡ (any xs f || f x)
-  any_push [] x = or_false (f x)
+  -- to keep what the test does not hold of
+  pub others_kept : (xs : List A) → filter (λ x. not (f x)) xs ≡ others f xs
+  others_kept [] = refl
+  others_kept (y ∷ xs) = go (f y) (others_kept xs)
     where
-      or_false : (b : Bool) → (b || false) ≡ b
-      or_false true = refl
-      or_false false = refl
-  any_push (y ∷ xs) x = ap (λ b. f y || b) (any_push xs x) ∙ sym (or_assoc (f y) (any xs f) (f x))
+      go : (b : Bool) → filter (λ x. not (f x)) xs ≡ others f xs
+          → cond (not b) (y ∷ filter (λ x. not (f x)) xs) (filter (λ x. not (f x)) xs) ≡ pick b (others f xs) (y ∷ others f xs)
+      go true e = e
+      go false e = ap (λ v. y ∷ v) e
 
-  -- after i places of the array xs₀, of which the first len of xs are left
-  pub record Sifted (xs₀ : List A) (i len : ℕ) (xs : List A) : Type 0 where
-    pub low : len ≤ i
-    pub front : take len xs ≡ others f (take i xs₀)
-    pub ahead : drop i xs ≡ drop i xs₀
-    pub long : length xs ≡ length xs₀
-
-  pub sifted_start : (xs : List A) → Sifted xs 0 0 xs
-  sifted_start xs = record { low = omega arith; front = refl; ahead = refl; long = refl }
-
-  module _ (xs₀ : List A) (i len : ℕ) (xs : List A) (so : Sifted xs₀ i len xs) (d : A) (h : i < length xs) where
-    -- the next member
-    abbrev x : A
-    x = get_or xs i d
-
-    long₀ : i < length xs₀
-    long₀ = omega (arith, so.long)
-
-    fronts : x ∷ drop (i + 1) xs ≡ get_or xs₀ i d ∷ drop (i + 1) xs₀
-    fronts = sym (drop_more xs i d h) ∙ so.ahead ∙ drop_more xs₀ i d long₀
-
-    later : drop (i + 1) xs ≡ drop (i + 1) xs₀
-    later = let e = fronts in cc
-
-    grown : others f (take (i + 1) xs₀) ≡ others f (take i xs₀) ++ pick (f x) [] (x ∷ [])
-    grown =
-        let e = fronts in
-        let same : get_or xs₀ i d ≡ x = cc in
-        ap (others f) (take_more xs₀ i d long₀ ∙ ap (λ (y : A). take i xs₀ ++ y ∷ []) same) ∙ others_push (take i xs₀) x
-
-    pub sifted_leave : f x ≡ true → Sifted xs₀ (i + 1) len xs
-    sifted_leave e =
-        record {
-          low = omega (arith, so.low);
-          front = so.front ∙ sym (grown ∙ ap (λ (b : Bool). others f (take i xs₀) ++ pick b [] (x ∷ [])) e ∙ append-nil (others f (take i xs₀)));
-          ahead = later;
-          long = so.long;
-        }
-
-    pub sifted_keep : f x ≡ false → Sifted xs₀ (i + 1) (len + 1) (set xs len x)
-    sifted_keep e =
-        let room : len < length xs = omega (arith, so.low) in
-        record {
-          low = omega (arith, so.low);
-          front = take_more_set xs len x room ∙ ap (λ v. v ++ x ∷ []) so.front
-              ∙ sym (grown ∙ ap (λ (b : Bool). others f (take i xs₀) ++ pick b [] (x ∷ [])) e);
-          ahead = drop-set-lt (i + 1) xs len x (omega (arith, so.low)) ∙ later;
-          long = length-set xs len x ∙ so.long;
-        }
+pub outside_few : (ss : List ColumnSet) (x : ColumnSet) → length (outside ss x) ≤ length ss
+outside_few ss x = omega (arith, both_sides (λ s. all_in (cols s) (cols x)) ss)

@@ -1,7 +1,7 @@
 -- Parts written one after the other, as one list of numbers.
 use Rattle.std.proofs.Common.{◌≡◌, ℕ, zero, suc, ◌+◌, ◌-◌, ◌*◌, ◌<◌, ◌≤◌, Bool, true, false, List, [], ◌∷◌, ◌++◌, length, get_or, take, drop, set, sym, refl, ap, ◌∙◌, append_assoc, add-one, arith, length-append}
 use borrow.Rule.Slice.PartMut.{put_mid}
-use Rattle.std.proofs.lemmas.List.{take_more, drop_more, append-nil, drop_all, length-drop, take_rest, set_comm, take_all}
+use Rattle.std.proofs.lemmas.List.{take_more, drop_more, append-nil, drop_all, length-drop, take_rest, set_comm}
 use Rattle.columns.specs.Cols.{pick}
 use Rattle.columns.specs.declared.set.ColumnSet.{ColumnSet}
 use Rattle.dependencies.specs.declared.rules.Rule.{Rule}
@@ -64,12 +64,6 @@ module _ (rs : List Rule) (s : ColumnSet) (row₀ : List ℕ) (i count : ℕ) (r
             ∙ sym (put_append row₀ 0 k (flat o) two (omega (arith, flat_length o, so.many)))
             ∙ ap (λ (v : List ℕ). put_list row₀ 0 v) (sym (flat_append o (x ∷ [])) ∙ ap flat (sym next));
       }
-
-pub owned_end : (rs : List Rule) (s : ColumnSet) (row₀ : List ℕ) (i count : ℕ) (row : List ℕ) → Owned rs s row₀ i count row → length rs ≤ i
-    → (count ≡ length (own rs s)) × (row ≡ put_list row₀ 0 (flat (own rs s)))
-owned_end rs s row₀ i count row so h =
-    let e : take i rs ≡ rs = take_all i rs h in
-    (so.many ∙ ap (λ (v : List Rule). length (own v s)) e, so.put ∙ ap (λ (v : List Rule). put_list row₀ 0 (flat (own v s))) e)
 
 -- ---- a list that is written into a part of a row
 put_behind : (xs : List ℕ) (at : ℕ) (ys : List ℕ) → at ≤ length xs → put_list xs at ys ≡ take at xs ++ put_list (drop at xs) 0 ys

@@ -1,5 +1,5 @@
 -- A design as lent numbers: how many parts there are, and for each its set, how many rules it owns, and two sets a rule.
-use Rattle.std.specs.Prelude.{ℕ, zero, suc, ◌+◌, ◌*◌, ◌^◌, Bool, true, ◌&&◌, List, [], ◌∷◌, drop, nat_lt, slice_index}
+use Rattle.std.specs.Prelude.{ℕ, zero, suc, ◌+◌, ◌*◌, ◌^◌, Bool, true, ◌&&◌, List, [], ◌∷◌, drop, length, nat_le, nat_lt, slice_index}
 use Rattle.columns.specs.Cols.{set_in}
 use Rattle.dependencies.specs.Layout.{rules_in}
 use Rattle.schema.specs.Design.{Part}
@@ -23,6 +23,10 @@ all_sets_fit n (suc k) xs = nat_lt (slice_index xs 0) (2 ^ n) && all_sets_fit n 
 unfoldable pub parts_fit : ℕ → ℕ → List ℕ → Bool
 parts_fit n zero xs = true
 parts_fit n (suc k) xs = (nat_lt (slice_index xs 0) (2 ^ n) && all_sets_fit n (2 * slice_index xs 1) (drop 2 xs)) && parts_fit n k (drop (2 + 2 * slice_index xs 1) xs)
+
+-- the first part is there whole, and names columns of the table only
+abbrev pub is_first_whole : ℕ → List ℕ → Bool
+is_first_whole n xs = nat_le (2 + 2 * slice_index xs 1) (length xs) && (nat_lt (slice_index xs 0) (2 ^ n) && all_sets_fit n (2 * slice_index xs 1) (drop 2 xs))
 
 -- the design that a lent row holds
 abbrev pub design_in : ℕ → List ℕ → List Part

@@ -1,12 +1,12 @@
 -- The parts of a plan, and what a plan for rules is.
-use Rattle.std.specs.Prelude.{ℕ, ◌+◌, ◌*◌, ◌^◌, ◌<◌, ◌≤◌, List, length}
+use Rattle.std.specs.Prelude.{ℕ, ◌+◌, ◌^◌, ◌<◌, ◌≤◌, List, length}
 use Rattle.columns.specs.Members.{In}
 use Rattle.columns.specs.declared.set.ColumnSet.{ColumnSet}
 use Rattle.dependencies.specs.Rules.{deps}
 use Rattle.dependencies.specs.Reads.{rules_of}
 use Rattle.dependencies.specs.declared.rules.Rule.{Rule}
 use Rattle.dependencies.specs.declared.held.RuleSet.{RuleSet}
-use Rattle.cover.specs.Held.{cover_rules}
+use Rattle.cover.specs.Held.{cover_rules, most_rules}
 use Rattle.schema.specs.Design.{Part, Design}
 use Rattle.schema.specs.Made.{parts_of}
 use Rattle.schema.specs.Sets.{sets_of, sets_in}
@@ -34,6 +34,6 @@ SmallSets n ss = (s : ColumnSet) → In s ss → s.bits < 2 ^ n
 -- the parts are a design for the rules, of no more parts than columns times rules and one, and name columns of the table only
 pub record Planned (t : RuleSet) (p : Plan) : Type 0 where
   pub design : Design t.width.columns (deps (rules_of t)) (plan_parts p)
-  pub few : length (plan_sets p) ≤ t.width.columns * t.count + 1
+  pub few : length (plan_sets p) ≤ most_rules t + 1
   pub small_rules : SmallRules t.width.columns (plan_rules p)
   pub small_sets : SmallSets t.width.columns (plan_sets p)

@@ -1,5 +1,6 @@
 -- Lists of sets of columns of which none lies inside another.
-use Rattle.std.specs.Prelude.{Bool, List, [], ◌∷◌, ◌++◌, take}
+use Rattle.std.specs.Prelude.{Bool, List, [], ◌∷◌, ◌++◌}
+use Rattle.bounded.specs.Items.{items}
 use Rattle.columns.specs.Cols.{Cols, all_in, pick}
 use Rattle.columns.specs.Every.{any}
 use Rattle.columns.specs.Sets.{cols}
@@ -13,7 +14,7 @@ sets_of (s ∷ ss) = cols s ∷ sets_of ss
 
 -- the sets that it holds
 abbrev pub sets_in : PartSets → List ColumnSet
-sets_in p = take p.count p.sets
+sets_in p = items p.sets
 
 -- the set lies inside one of the others
 abbrev pub is_set_held : List ColumnSet → ColumnSet → Bool

@@ -1,5 +1,6 @@
 -- A design as numbers: for each part its set, how many rules it owns, and two sets a rule.
-use Rattle.std.specs.Prelude.{◌≡◌, ℕ, Bool, ◌&&◌, List, [], ◌∷◌, ◌++◌, length, take}
+use Rattle.std.specs.Prelude.{◌≡◌, ℕ, Bool, ◌&&◌, List, [], ◌∷◌, ◌++◌, length}
+use Rattle.bounded.specs.Items.{items}
 use Rattle.columns.specs.Cols.{all_in}
 use Rattle.columns.specs.Sets.{cols}
 use Rattle.columns.specs.declared.set.ColumnSet.{ColumnSet}
@@ -10,7 +11,7 @@ use Rattle.schema.specs.declared.unplaced.Unplaced.{Unplaced}
 
 -- the rules that are left
 abbrev pub left_in : Unplaced → List Rule
-left_in u = take u.count u.rules
+left_in u = items u.rules
 
 -- both sides of the rule lie in the set
 abbrev pub inside : Rule → ColumnSet → Bool

@@ -39,7 +39,7 @@ impl Plan {
 // The columns of the rules with one left side, in the order of the rules. A set inside another goes, and what lies in it then
 // lies in the other.
 fn merge_left_sides(cover: &Cover) -> PartSets
-    ensures { (Holding (OfLeftSide (deps (cover_rules cover.now))) (deps (cover_rules cover.now)) (sets_of (sets_in result))) × (result.count ≤ length (cover_rules cover.now)) }
+    ensures { (Holding (OfLeftSide (deps (cover_rules cover.now))) (deps (cover_rules cover.now)) (sets_of (sets_in result))) × (length (sets_in result) ≤ length (cover_rules cover.now)) }
 {
     let rules = cover.rules();
     let mut sets = PartSets::none();
@@ -60,18 +60,13 @@ fn fixes_all(set: &RuleSet, part: ColumnSet) -> bool
 fn some_fixes(set: &RuleSet, parts: &[ColumnSet]) -> bool
     ensures { result ≡ does_some_fix set.now.width.columns (deps (rules_of set.now)) parts.now }
 {
-    for part in parts {
-        if fixes_all(set, *part) {
-            return true;
-        }
-    }
-    false
+    parts.iter().any(|part| fixes_all(set, *part))
 }
 
 // Adds a key of the table where no set fixes all columns.
 fn add_key(set: &RuleSet, sets: &mut PartSets)
-    requires { sets.old.count < 513 }
-    ensures { (Keyed set.now.width.columns (deps (rules_of set.now)) (sets_in sets.old) (sets_in sets.new)) × (sets.new.count ≤ sets.old.count + 1) }
+    requires { length (sets_in sets.old) < 513 }
+    ensures { (Keyed set.now.width.columns (deps (rules_of set.now)) (sets_in sets.old) (sets_in sets.new)) × (length (sets_in sets.new) ≤ length (sets_in sets.old) + 1) }
 {
     if some_fixes(set, sets.sets()) {
         return;

@@ -19,15 +19,10 @@ fn part_extent(row: &[u64]) -> Option<usize>
 pub fn design_extent(lent: &[u64]) -> Option<usize>
     ensures { MatchOption result (length lent.now < extent_of_design lent.now) (λ k. (k ≡ extent_of_design lent.now) × (k ≤ length lent.now)) }
 {
-    if lent.len() == 0 {
-        return None;
-    }
+    let parts = lent.first()?;
     let mut at = 1;
-    for _ in 0..lent[0] {
-        let Some(size) = part_extent(&lent[at..]) else {
-            return None;
-        };
-        at += size;
+    for _ in 0..*parts {
+        at += part_extent(&lent[at..])?;
     }
     Some(at)
 }

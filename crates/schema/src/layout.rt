@@ -5,6 +5,7 @@ ghost use Rattle.dependencies.specs.Lent.{put_list};
 ghost use Rattle.schema.specs.Writing.{inside, own, over, flat, left_in, PartPut, encoded};
 
 use crate::unplaced::Unplaced;
+use bounded::Bounded;
 use columns::ColumnSet;
 use dependencies::Rule;
 
@@ -22,37 +23,25 @@ impl Unplaced {
         ensures { left_in result ≡ rules.now }
     {
         let nothing = ColumnSet::empty();
-        let mut held = [Rule {
+        let mut left = Bounded::new(Rule {
             left: nothing,
             right: nothing,
-        }; 512];
-        held[..rules.len()].copy_from_slice(rules);
-        Unplaced {
-            rules: held,
-            count: rules.len(),
-        }
+        });
+        left.extend_from_slice(rules);
+        Unplaced { rules: left }
     }
 
     pub(crate) fn rules(&self) -> &[Rule]
         ensures { result.now ≡ left_in self.now }
     {
-        &self.rules[0..self.count]
+        self.rules.as_slice()
     }
 
     // Takes out the rules that lie in the set, which its part now owns: no later part gets them again.
     pub(crate) fn take_out(&mut self, set: ColumnSet)
         ensures { left_in self.new ≡ over (left_in self.old) set }
     {
-        let mut len = 0;
-        for i in 0..self.count {
-            let rule = self.rules[i];
-            if lies(rule, set) {
-                continue;
-            }
-            self.rules[len] = rule;
-            len += 1;
-        }
-        self.count = len;
+        self.rules.retain(|rule| !lies(*rule, set));
     }
 }
 
@@ -61,6 +50,7 @@ fn write_own(rules: &[Rule], set: ColumnSet, row: &mut [u64]) -> usize
     requires { 2 * length rules.now ≤ length row.old }
     ensures { (result ≡ length (own rules.now set)) × (row.new ≡ put_list row.old 0 (flat (own rules.now set))) }
 {
+    // Counted by hand: of what is written through `chunks_exact_mut` no proof knows more than its length.
     let mut owned = 0;
     for rule in rules {
         if !lies(*rule, set) {

@@ -23,10 +23,7 @@ fn write_design(set: &RuleSet, out: &mut [u64]) -> u64
 pub fn design_for(rules: &[u64], out: &mut [u64]) -> Result<u64, Refusal>
     ensures { DesignTold rules.now out.old result out.new }
 {
-    let set = match read_rules(rules) {
-        Ok(set) => set,
-        Err(refusal) => return Err(refusal),
-    };
+    let set = read_rules(rules)?;
     if out.len() < 2100 {
         return Err(Refusal::ShortRow(out.len() as u64));
     }

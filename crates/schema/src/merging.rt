@@ -1,11 +1,12 @@
 // Sets for the parts: the columns of all rules with one left side, none inside another.
-ghost use Rattle.std.specs.Prelude.{◌≡◌, ◌+◌, ◌<◌, ◌≤◌, []};
+ghost use Rattle.std.specs.Prelude.{◌≡◌, ◌+◌, ◌<◌, ◌≤◌, [], length};
 ghost use Rattle.columns.specs.Sets.{cols};
 ghost use Rattle.dependencies.specs.Rules.{dep, deps};
 ghost use Rattle.schema.specs.Gathers.{Gathered, Joined};
 ghost use Rattle.schema.specs.Sets.{sets_in, is_set_held, outside, with_set};
 
 use crate::part_sets::PartSets;
+use bounded::Bounded;
 use columns::ColumnSet;
 use dependencies::Rule;
 
@@ -34,21 +35,15 @@ pub(crate) fn gather(cover: &[Rule], left: ColumnSet) -> ColumnSet
 fn is_held(others: &[ColumnSet], set: ColumnSet) -> bool
     ensures { result ≡ is_set_held others.now set }
 {
-    for other in others {
-        if set.is_subset(*other) {
-            return true;
-        }
-    }
-    false
+    others.iter().any(|other| set.is_subset(*other))
 }
 
 impl PartSets {
     pub(crate) fn none() -> Self
-        ensures { (sets_in result ≡ []) × (result.count ≡ 0) }
+        ensures { sets_in result ≡ [] }
     {
         PartSets {
-            sets: [ColumnSet::empty(); 513],
-            count: 0,
+            sets: Bounded::new(ColumnSet::empty()),
         }
     }
 
@@ -56,35 +51,25 @@ impl PartSets {
     pub fn sets(&self) -> &[ColumnSet]
         ensures { result.now ≡ sets_in self.now }
     {
-        &self.sets[0..self.count]
+        self.sets.as_slice()
     }
 
     // Drops those that lie inside the set; the others keep their order.
     fn drop_inside(&mut self, set: ColumnSet)
-        ensures { (sets_in self.new ≡ outside (sets_in self.old) set) × (self.new.count ≤ self.old.count) }
+        ensures { sets_in self.new ≡ outside (sets_in self.old) set }
     {
-        let mut len = 0;
-        for i in 0..self.count {
-            let other = self.sets[i];
-            if other.is_subset(set) {
-                continue;
-            }
-            self.sets[len] = other;
-            len += 1;
-        }
-        self.count = len;
+        self.sets.retain(|other| !other.is_subset(set));
     }
 
     // One set more, unless it lies inside one of them: of equal sets the first stays.
     pub(crate) fn add(&mut self, set: ColumnSet)
-        requires { self.old.count < 513 }
-        ensures { (sets_in self.new ≡ with_set (sets_in self.old) set) × (self.new.count ≤ self.old.count + 1) }
+        requires { length (sets_in self.old) < 513 }
+        ensures { (sets_in self.new ≡ with_set (sets_in self.old) set) × (length (sets_in self.new) ≤ length (sets_in self.old) + 1) }
     {
         if is_held(self.sets(), set) {
             return;
         }
         self.drop_inside(set);
-        self.sets[self.count] = set;
-        self.count += 1;
+        self.sets.push(set);
     }
 }

@@ -13,16 +13,14 @@ impl fmt::Display for Plan {
 
     fn fmt<W: fmt::Write>(&self, f: &mut fmt::Formatter<W>) -> fmt::Result {
         let mut rest = Unplaced::all(self.rules());
-        let sets = self.sets.sets();
-        for i in 0..sets.len() {
-            let set = sets[i];
+        for set in self.sets.sets() {
             let line = PartLine {
-                set,
+                set: *set,
                 rules: rest.rules(),
             };
             writeln!(f, "{line}")?;
             // What this part owns no later part owns.
-            rest.take_out(set);
+            rest.take_out(*set);
         }
         Ok(())
     }

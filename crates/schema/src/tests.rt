@@ -2,6 +2,8 @@
 use crate::designing::design;
 use crate::extents::design_extent;
 use crate::lent::design_for;
+use crate::lent_sets::{part_len, sets_fit};
+use columns::Width;
 use dependencies::{Refusal, read_rules};
 use std::process::Abort;
 use std::test::Fail;
@@ -10,13 +12,9 @@ use std::test::Fail;
 fn gives(rt: &impl Abort, rules: &[u64], parts: u64, answer: &[u64]) -> Result<(), Fail> {
     let mut row = [7; 2100];
     assert_eq!(rt; design_for(rules, &mut row), Ok(parts), "of {rules:?}");
-    for (i, number) in row.iter().enumerate() {
-        if i < answer.len() {
-            assert_eq!(rt; *number, answer[i], "of {rules:?}");
-        } else {
-            assert_eq!(rt; *number, 7, "of {rules:?}");
-        }
-    }
+    assert!(rt; row.starts_with(answer), "of {rules:?}");
+    let behind = row.iter().skip(answer.len());
+    assert!(rt; behind.copied().all(|number| number == 7), "of {rules:?}");
     Ok(())
 }
 
@@ -134,5 +132,31 @@ fn a_plan(rt: HostRuntime) -> Result<(), Fail> {
     let plan = design(&read_rules(&[3, 1, 1, 2])?);
     assert_eq!(rt; plan.sets().len(), 2);
     assert_eq!(rt; plan.rules().len(), 1);
+    Ok(())
+}
+
+#[test]
+fn sets_of_a_table(rt: HostRuntime) -> Result<(), Fail> {
+    let Some(three) = Width::new(3) else {
+        return Err(Fail::new("three columns"));
+    };
+    assert!(rt; sets_fit(&[], three));
+    assert!(rt; sets_fit(&[7, 0, 4], three));
+    assert!(rt; !sets_fit(&[7, 8], three), "the last set has column 3");
+    assert!(rt; !sets_fit(&[0x1_0000_0001, 1], three));
+    Ok(())
+}
+
+// A part of one rule before another number, one that is cut short, and one whose rule names column 3.
+#[test]
+fn parts_of_a_row(rt: HostRuntime) -> Result<(), Fail> {
+    let Some(three) = Width::new(3) else {
+        return Err(Fail::new("three columns"));
+    };
+    assert_eq!(rt; part_len(&[3, 1, 1, 2, 9], three), Some(4));
+    assert_eq!(rt; part_len(&[1, 2, 1, 2], three), None);
+    assert_eq!(rt; part_len(&[3, 1, 1, 8], three), None);
+    assert_eq!(rt; part_len(&[8, 0], three), None);
+    assert_eq!(rt; part_len(&[3], three), None);
     Ok(())
 }

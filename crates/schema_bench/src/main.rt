@@ -28,10 +28,7 @@ const MIXED: [u64; 66] = [
 
 // Makes a design in the row, and gives how many parts it has.
 fn make(lent: &[u64], row: &mut [u64]) -> u64 {
-    match design_for(lent, row) {
-        Ok(count) => count,
-        Err(_) => 0,
-    }
+    design_for(lent, row).unwrap_or(0)
 }
 
 fn main(rt: HostRuntime) -> io::Result<()> {

@@ -14,9 +14,7 @@ const SIZE: Size = Size {
 };
 
 fn asked(set: &RuleSet, start: u64) -> Option<u64> {
-    let Some(start) = ColumnSet::from_bits(start, set.width()) else {
-        return None;
-    };
+    let start = ColumnSet::from_bits(start, set.width())?;
     Some(closure(set.rules(), start).bits())
 }
 

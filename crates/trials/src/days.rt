@@ -1,6 +1,6 @@
 // Random days: a register in the parts of a design for random rules, beside one plain table.
 use crate::generator::Random;
-use crate::one_table::{COLUMNS, OneTable, Row};
+use crate::one_table::{Answer, COLUMNS, OneTable, Row};
 use crate::plain_rules::{PlainRules, Size, random_rules};
 use crate::splittings::made;
 use register::Register;
@@ -17,20 +17,19 @@ const SIZE: Size = Size {
 };
 
 #[derive(Clone, Copy)]
-struct Deed {
-    takes_out: bool,
-    row: Row,
+enum Deed {
+    PutIn(Row),
+    TakeOut(Row),
 }
 
-// What one side says of a day: for each deed the number that is told, and for each deed's row 1 if it is there in the
-// end and 0 if not.
-#[derive(Drop)]
+// What one side says of a deed: what it tells, and whether the deed's row is there in the end.
+#[derive(Clone, Copy, PartialEq, Eq, Debug)]
 pub struct Told {
-    numbers: Vec<u64>,
-    present: Vec<u64>,
+    answer: Answer,
+    present: Option<bool>,
 }
 
-// How often each number was told, and how many rows were there in the end.
+// How often each answer was told, and how many rows were there in the end.
 #[derive(Drop)]
 pub struct Tally {
     done: u64,
@@ -43,10 +42,8 @@ pub struct Tally {
 // Cells are so small that rows clash.
 pub fn random_row(random: &mut Random, columns: u64, values: u32) -> Row {
     let mut row = [0; COLUMNS];
-    for c in 0..COLUMNS {
-        if (c as u64) < columns {
-            row[c] = random.below(values);
-        }
+    for cell in row.iter_mut().take(columns as usize) {
+        *cell = random.below(values);
     }
     row
 }
@@ -62,52 +59,58 @@ fn random_day(heap: Global, random: &mut Random, columns: u64) -> Result<Vec<Dee
         let takes_out = random.below(3) == 0;
         let fresh = random_row(random, columns, values);
         let earlier = deeds.get(random.below(d) as usize).copied();
-        let row = match earlier {
-            Some(deed) if takes_out => deed.row,
-            _ => fresh,
+        let deed = match earlier {
+            Some(deed) if takes_out => Deed::TakeOut(deed.row()),
+            _ if takes_out => Deed::TakeOut(fresh),
+            _ => Deed::PutIn(fresh),
         };
-        deeds.push(Deed { takes_out, row })?;
+        deeds.push(deed)?;
     }
     Ok(deeds)
+}
+
+impl Deed {
+    fn row(self) -> Row {
+        match self {
+            Deed::PutIn(row) | Deed::TakeOut(row) => row,
+        }
+    }
+
+    // The number that a lent deed begins with.
+    fn number(self) -> u64 {
+        match self {
+            Deed::PutIn(_) => 0,
+            Deed::TakeOut(_) => 1,
+        }
+    }
 }
 
 // The deeds as the register is lent them.
 fn lent_deeds(heap: Global, deeds: &[Deed], columns: u64) -> Result<Vec<u64>, AllocError> {
     let mut lent = Vec::new(heap);
     for deed in deeds {
-        lent.push(deed.takes_out as u64)?;
-        for cell in deed.row.iter().take(columns as usize) {
+        lent.push(deed.number())?;
+        for cell in deed.row().iter().take(columns as usize) {
             lent.push(*cell)?;
         }
     }
     Ok(lent)
 }
 
-// 1 where the register holds the row, 0 where not; a refusal is none of these.
-fn asked(register: &Register, row: &Row, columns: u64) -> u64 {
-    match register.contains(&row[0..(columns as usize).min(COLUMNS)]) {
-        Ok(true) => 1,
-        Ok(false) => 0,
-        Err(refusal) => refusal.number().saturating_add(100),
-    }
+// Whether the register holds the row; none where it refuses to say.
+fn asked(register: &Register, row: &Row, columns: u64) -> Option<bool> {
+    register
+        .contains(&row[0..(columns as usize).min(COLUMNS)])
+        .ok()
 }
 
-// The numbers of the answers, without the places.
-fn numbers_in(heap: Global, answers: &[u64]) -> Result<Vec<u64>, AllocError> {
-    let mut numbers = Vec::new(heap);
-    for number in answers.iter().step_by(2) {
-        numbers.push(*number)?;
-    }
-    Ok(numbers)
-}
-
-// The day of a register in the parts of a lent design, with room for every deed's row.
+// The day of a register in the parts of a lent design, with room for every deed's row. Nothing is told where not all deeds are answered.
 fn kept_in_parts(
     heap: Global,
     rules: &PlainRules,
     design: &[u64],
     deeds: &[Deed],
-) -> Result<Told, AllocError> {
+) -> Result<Vec<Told>, AllocError> {
     let lent = rules.lent(heap)?;
     let parts = design.first().copied().unwrap_or(0) as usize;
     let mut cells = vec![in heap; 0; DEEDS as usize * parts.min(513) * (COLUMNS + 1)]?;
@@ -115,36 +118,43 @@ fn kept_in_parts(
     let day = lent_deeds(heap, deeds, rules.columns)?;
     let mut register = Register::over(design, cells.as_mut_slice());
     let answered = register.keep_day(lent.as_slice(), day.as_slice(), answers.as_mut_slice());
-    let mut present = Vec::new(heap);
-    for deed in deeds {
-        present.push(asked(&register, &deed.row, rules.columns))?;
+    let mut told = Vec::new(heap);
+    if answered != Ok(deeds.len()) {
+        return Ok(told);
     }
-    let numbers = match answered {
-        Ok(count) if count == deeds.len() => numbers_in(heap, answers.as_slice())?,
-        _ => Vec::new(heap),
-    };
-    Ok(Told { numbers, present })
+    for (deed, number) in deeds.iter().zip(answers.iter().step_by(2)) {
+        told.push(Told {
+            answer: Answer::from(*number),
+            present: asked(&register, &deed.row(), rules.columns),
+        })?;
+    }
+    Ok(told)
 }
 
 // The day of one table.
-fn kept_in_one_table(heap: Global, rules: &PlainRules, deeds: &[Deed]) -> Result<Told, AllocError> {
+fn kept_in_one_table(
+    heap: Global,
+    rules: &PlainRules,
+    deeds: &[Deed],
+) -> Result<Vec<Told>, AllocError> {
     let mut table = OneTable {
         rows: Vec::new(heap),
     };
-    let mut numbers = Vec::new(heap);
+    let mut answers = Vec::new(heap);
     for deed in deeds {
-        let number = if deed.takes_out {
-            table.take_out(&deed.row)
-        } else {
-            table.put_in(rules.list.as_slice(), &deed.row)?
-        };
-        numbers.push(number)?;
+        answers.push(match deed {
+            Deed::PutIn(row) => table.put_in(rules.list.as_slice(), row)?,
+            Deed::TakeOut(row) => table.take_out(row),
+        })?;
     }
-    let mut present = Vec::new(heap);
-    for deed in deeds {
-        present.push(table.holds(&deed.row) as u64)?;
+    let mut told = Vec::new(heap);
+    for (deed, answer) in deeds.iter().zip(answers.iter()) {
+        told.push(Told {
+            answer: *answer,
+            present: Some(table.holds(&deed.row())),
+        })?;
     }
-    Ok(Told { numbers, present })
+    Ok(told)
 }
 
 impl Tally {
@@ -158,17 +168,17 @@ impl Tally {
         }
     }
 
-    pub fn count(&mut self, told: &Told) {
-        for number in told.numbers.iter() {
-            match *number {
-                0 => self.done = self.done.saturating_add(1),
-                8 => self.present = self.present.saturating_add(1),
-                9 => self.broken = self.broken.saturating_add(1),
+    pub fn count(&mut self, day: &[Told]) {
+        for told in day {
+            match told.answer {
+                Answer::Done => self.done = self.done.saturating_add(1),
+                Answer::Present => self.present = self.present.saturating_add(1),
+                Answer::Broken => self.broken = self.broken.saturating_add(1),
                 _ => self.absent = self.absent.saturating_add(1),
             }
-        }
-        for there in told.present.iter() {
-            self.held = self.held.saturating_add(*there);
+            if told.present == Some(true) {
+                self.held = self.held.saturating_add(1);
+            }
         }
     }
 }
@@ -189,18 +199,18 @@ impl fmt::Display for Tally {
 
 fn show_deeds(rt: &HostRuntime, deeds: &[Deed]) -> anyhow::Result<()> {
     for deed in deeds {
-        let word = if deed.takes_out { "take out" } else { "put in" };
-        let row = deed.row;
-        println!(rt; "  {word} {row:?}")?;
+        match deed {
+            Deed::PutIn(row) => println!(rt; "  put in {row:?}")?,
+            Deed::TakeOut(row) => println!(rt; "  take out {row:?}")?,
+        }
     }
     Ok(())
 }
 
-fn show_told(rt: &HostRuntime, side: &str, told: &Told) -> anyhow::Result<()> {
-    let numbers = told.numbers.as_slice();
-    let present = told.present.as_slice();
-    println!(rt; "  {side} told {numbers:?}")?;
-    println!(rt; "  {side} held {present:?}")?;
+fn show_told(rt: &HostRuntime, side: &str, day: &[Told]) -> anyhow::Result<()> {
+    for told in day {
+        println!(rt; "  {side} {told:?}")?;
+    }
     Ok(())
 }
 
@@ -210,21 +220,19 @@ pub fn day(
     random: &mut Random,
     rules: &PlainRules,
     design: &[u64],
-) -> anyhow::Result<Option<Told>> {
+) -> anyhow::Result<Option<Vec<Told>>> {
     let heap = rt.alloc();
     let deeds = random_day(heap, random, rules.columns)?;
     let parts = kept_in_parts(heap, rules, design, deeds.as_slice())?;
     let whole = kept_in_one_table(heap, rules, deeds.as_slice())?;
-    if parts.numbers.as_slice() == whole.numbers.as_slice()
-        && parts.present.as_slice() == whole.present.as_slice()
-    {
+    if parts.as_slice() == whole.as_slice() {
         return Ok(Some(whole));
     }
     println!(rt; "days: a difference with {rules}")?;
     println!(rt; "  in the design {design:?}")?;
     show_deeds(rt, deeds.as_slice())?;
-    show_told(rt, "the parts", &parts)?;
-    show_told(rt, "one table", &whole)?;
+    show_told(rt, "the parts", parts.as_slice())?;
+    show_told(rt, "one table", whole.as_slice())?;
     Ok(None)
 }
 
@@ -238,7 +246,7 @@ pub fn run(rt: &HostRuntime) -> anyhow::Result<()> {
         let Some(told) = day(rt, &mut random, &rules, design.as_slice())? else {
             return Ok(());
         };
-        tally.count(&told);
+        tally.count(told.as_slice());
     }
     println!(rt; "days: {DAYS} random days of {DEEDS} deeds: {tally}; no difference")?;
     Ok(())

@@ -5,7 +5,6 @@ use crate::plain_rules::{PlainRule, PlainRules, Size, random_rules, set_count};
 use anyhow::anyhow;
 use columns::ColumnSet;
 use dependencies::{Implication, Rule, RuleSet, TwoRows, follows, read_rules, two_rows};
-use std::fmt;
 
 const TRIALS: u32 = 2000;
 
@@ -14,33 +13,20 @@ const SIZE: Size = Size {
     rules: 6,
 };
 
-// What the crates say.
-#[derive(Clone, Copy)]
-enum Answer {
-    NotAsked,
-    Follows,
-    Against(TwoRows),
-}
-
-fn asked(set: &RuleSet, rule: PlainRule) -> Answer {
-    let Some(left) = ColumnSet::from_bits(rule.left, set.width()) else {
-        return Answer::NotAsked;
-    };
-    let Some(right) = ColumnSet::from_bits(rule.right, set.width()) else {
-        return Answer::NotAsked;
-    };
-    match follows(set.rules(), Rule { left, right }) {
-        Implication::Follows => Answer::Follows,
-        Implication::Against(fixed) => Answer::Against(two_rows(fixed)),
-    }
+// What the crates say; none where the rule names a column that is not there.
+fn asked(set: &RuleSet, rule: PlainRule) -> Option<Implication> {
+    let left = ColumnSet::from_bits(rule.left, set.width())?;
+    let right = ColumnSet::from_bits(rule.right, set.width())?;
+    Some(follows(set.rules(), Rule { left, right }))
 }
 
 // The columns of the table in which two rows agree.
 fn agreement(rows: TwoRows, columns: u64) -> u64 {
     let mut agree = 0;
-    for c in 0..16u64 {
-        if c < columns && rows.first[c as usize] == rows.second[c as usize] {
-            agree |= 1 << c;
+    let cells = rows.first.iter().zip(rows.second.iter());
+    for (c, (one, two)) in cells.enumerate().take(columns.min(16) as usize) {
+        if one == two {
+            agree |= 1 << (c % 64);
         }
     }
     agree
@@ -53,26 +39,17 @@ fn are_against(rows: TwoRows, rules: &PlainRules, rule: PlainRule) -> bool {
 }
 
 // Whether the answer is that of the tables, and the two rows, where they are given, are right.
-fn is_right(answer: Answer, rules: &PlainRules, tables: &[u64], rule: PlainRule) -> bool {
+fn is_right(
+    answer: Option<Implication>,
+    rules: &PlainRules,
+    tables: &[u64],
+    rule: PlainRule,
+) -> bool {
     let holds = holds_in_all(tables, rule);
     match answer {
-        Answer::Follows => holds,
-        Answer::Against(rows) => !holds && are_against(rows, rules, rule),
-        Answer::NotAsked => false,
-    }
-}
-
-impl fmt::Display for Answer {
-    fn fmt<W: fmt::Write>(&self, f: &mut fmt::Formatter<W>) -> fmt::Result {
-        match self {
-            Answer::NotAsked => write!(f, "not asked"),
-            Answer::Follows => write!(f, "yes"),
-            Answer::Against(rows) => {
-                let first = rows.first;
-                let second = rows.second;
-                write!(f, "no, by {first:?} and {second:?}")
-            }
-        }
+        Some(Implication::Follows) => holds,
+        Some(Implication::Against(fixed)) => !holds && are_against(two_rows(fixed), rules, rule),
+        None => false,
     }
 }
 
@@ -80,13 +57,20 @@ fn show(
     rt: &HostRuntime,
     rules: &PlainRules,
     rule: PlainRule,
-    answer: Answer,
+    answer: Option<Implication>,
 ) -> anyhow::Result<()> {
     let tables = two_row_tables(rt.alloc(), rules)?;
     let plain = holds_in_all(tables.as_slice(), rule);
     println!(rt; "implications: a difference with {rules}, asked {rule}")?;
     println!(rt; "  holds in all tables of two rows: {plain}")?;
-    println!(rt; "  follows: {answer}")?;
+    match answer {
+        Some(Implication::Follows) => println!(rt; "  follows: yes")?,
+        Some(Implication::Against(fixed)) => {
+            let TwoRows { first, second } = two_rows(fixed);
+            println!(rt; "  follows: no, by {first:?} and {second:?}")?;
+        }
+        None => println!(rt; "  follows: not asked")?,
+    }
     Ok(())
 }
 

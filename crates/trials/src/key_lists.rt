@@ -22,11 +22,8 @@ struct Lists {
 // A set of six columns has no more than 20 keys.
 fn listed(heap: Global, lent: &[u64], target: u64) -> Result<Vec<u64>, AllocError> {
     let mut row = vec![in heap; 0; 64]?;
-    let count = match candidate_keys(lent, target, row.as_mut_slice()) {
-        Ok(count) => count as usize,
-        Err(_) => 0,
-    };
-    row.truncate(count);
+    let count = candidate_keys(lent, target, row.as_mut_slice()).unwrap_or(0);
+    row.truncate(count as usize);
     Ok(row)
 }
 

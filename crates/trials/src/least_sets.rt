@@ -16,10 +16,7 @@ const SIZE: Size = Size {
 fn least(heap: Global, rules: &PlainRules) -> Result<Vec<PlainRule>, AllocError> {
     let lent = rules.lent(heap)?;
     let mut row = vec![in heap; 0; 2100]?;
-    let count = match least_set_for(lent.as_slice(), row.as_mut_slice()) {
-        Ok(count) => count as usize,
-        Err(_) => 0,
-    };
+    let count = least_set_for(lent.as_slice(), row.as_mut_slice()).unwrap_or(0) as usize;
     let mut least = Vec::new(heap);
     for sets in row
         .as_slice()

@@ -20,10 +20,8 @@ fn accepted(heap: Global, rules: &PlainRules) -> Result<Option<u64>, AllocError>
     let Ok(parts) = design_for(lent.as_slice(), design.as_mut_slice()) else {
         return Ok(None);
     };
-    match check_design(lent.as_slice(), design.as_slice(), tableau.as_mut_slice()) {
-        Ok(()) => Ok(Some(parts)),
-        Err(_) => Ok(None),
-    }
+    let verdict = check_design(lent.as_slice(), design.as_slice(), tableau.as_mut_slice());
+    Ok(verdict.ok().map(|_| parts))
 }
 
 // One line; or the first rules whose design is not accepted.

@@ -8,14 +8,38 @@ pub const COLUMNS: usize = 6;
 // Cells behind the table's last column are 0.
 pub type Row = [u64; COLUMNS];
 
+// What is told of a row that is put in or taken out.
+#[derive(Clone, Copy, PartialEq, Eq, Debug)]
+pub enum Answer {
+    Done,
+    Present,
+    Broken,
+    Absent,
+    // What no table tells of a row.
+    Other(u64),
+}
+
+impl From<u64> for Answer {
+    // The answer of a refusal's number, or of 0.
+    fn from(number: u64) -> Self {
+        match number {
+            0 => Answer::Done,
+            8 => Answer::Present,
+            9 => Answer::Broken,
+            10 => Answer::Absent,
+            _ => Answer::Other(number),
+        }
+    }
+}
+
 #[derive(Drop)]
 pub struct OneTable {
     pub rows: Vec<Row>,
 }
 
 fn agree(one: &Row, two: &Row, set: u64) -> bool {
-    for c in 0..COLUMNS {
-        if has(set, c) && one[c] != two[c] {
+    for (c, (a, b)) in one.iter().zip(two.iter()).enumerate() {
+        if has(set, c) && a != b {
             return false;
         }
     }
@@ -33,12 +57,9 @@ fn breaks_some(rules: &[PlainRule], one: &Row, two: &Row) -> bool {
 
 impl OneTable {
     fn place_of(&self, row: &Row) -> Option<usize> {
-        for (i, other) in self.rows.iter().enumerate() {
-            if agree(row, other, u64::MAX) {
-                return Some(i);
-            }
-        }
-        None
+        self.rows
+            .iter()
+            .position(|other| agree(row, other, u64::MAX))
     }
 
     pub fn holds(&self, row: &Row) -> bool {
@@ -54,26 +75,24 @@ impl OneTable {
         true
     }
 
-    // The number that is told: 0 where it is done, 8 where the row is there, 9 where it breaks a rule.
-    pub fn put_in(&mut self, rules: &[PlainRule], row: &Row) -> Result<u64, AllocError> {
+    pub fn put_in(&mut self, rules: &[PlainRule], row: &Row) -> Result<Answer, AllocError> {
         if self.holds(row) {
-            return Ok(8);
+            return Ok(Answer::Present);
         }
         if !self.allows(rules, row) {
-            return Ok(9);
+            return Ok(Answer::Broken);
         }
         self.rows.push(*row)?;
-        Ok(0)
+        Ok(Answer::Done)
     }
 
-    // 0 where it is done, 10 where the row is not there.
-    pub fn take_out(&mut self, row: &Row) -> u64 {
+    pub fn take_out(&mut self, row: &Row) -> Answer {
         let Some(i) = self.place_of(row) else {
-            return 10;
+            return Answer::Absent;
         };
         if i < self.rows.len() {
             let _ = self.rows.remove(i);
         }
-        0
+        Answer::Done
     }
 }

@@ -26,7 +26,7 @@ fn some_design(
     };
     let obeying = Obeying::of(heap, tables, rules)?;
     let design = random_splitting(heap, random, rules, &obeying)?;
-    if design.first_missed(tables, &obeying, rules) != 0 {
+    if design.verdict(tables, &obeying, rules).is_err() {
         return Ok(None);
     }
     Ok(Some(design.lent(heap)?))
@@ -46,7 +46,7 @@ pub fn run(rt: &HostRuntime) -> anyhow::Result<()> {
         let Some(told) = day(rt, &mut random, &rules, design.as_slice())? else {
             return Ok(());
         };
-        tally.count(&told);
+        tally.count(told.as_slice());
         designs = designs.saturating_add(1);
     }
     println!(rt;

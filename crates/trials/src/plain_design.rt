@@ -3,6 +3,7 @@ use crate::plain_rules::{
     PlainRule, PlainRules, ShownSet, all_columns, has, is_inside, push_rules,
 };
 use crate::small_tables::{COLUMNS, SmallTable, SmallTables};
+use dependencies::Condition;
 use std::alloc::{AllocError, Global};
 use std::fmt;
 
@@ -194,24 +195,29 @@ impl PlainDesign {
         true
     }
 
-    // The first condition that it misses; 0 where it is a design.
-    pub fn first_missed(&self, tables: &SmallTables, obeying: &Obeying, rules: &PlainRules) -> u64 {
+    // Whether it is a design, and else the first condition that it misses.
+    pub fn verdict(
+        &self,
+        tables: &SmallTables,
+        obeying: &Obeying,
+        rules: &PlainRules,
+    ) -> Result<(), Condition> {
         if !self.covers(rules.columns) {
-            return 1;
+            return Err(Condition::Covers);
         }
         if !self.none_inside() {
-            return 2;
+            return Err(Condition::NoneInside);
         }
         if !self.loses_nothing(tables, obeying) {
-            return 3;
+            return Err(Condition::Lossless);
         }
         if !self.keeps_rules(tables, rules) {
-            return 4;
+            return Err(Condition::RulesKept);
         }
         if !self.is_in_third_form(obeying) {
-            return 5;
+            return Err(Condition::ThirdForm);
         }
-        0
+        Ok(())
     }
 
     // The row of numbers that the tester is lent.

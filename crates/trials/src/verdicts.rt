@@ -5,7 +5,7 @@ use crate::plain_rules::{PlainRules, Size, random_rules};
 use crate::small_tables::{COLUMNS, SmallTables, all_small_tables};
 use crate::splittings::random_splitting;
 use anyhow::anyhow;
-use dependencies::Refusal;
+use dependencies::{Condition, Refusal};
 use std::alloc::{AllocError, Global};
 use std::fmt;
 use verdict::{CheckFailure, check_design};
@@ -28,13 +28,14 @@ struct Tally {
 }
 
 impl Tally {
-    fn count(&mut self, verdict: u64) {
-        if verdict == 0 {
-            self.designs = self.designs.saturating_add(1);
-        }
-        for i in 0..5usize {
-            if verdict == i as u64 + 1 {
-                self.missed[i] = self.missed[i].saturating_add(1);
+    fn count(&mut self, verdict: Result<(), Condition>) {
+        match verdict {
+            Ok(()) => self.designs = self.designs.saturating_add(1),
+            Err(condition) => {
+                let place = condition.number().saturating_sub(1) as usize;
+                if let Some(count) = self.missed.get_mut(place) {
+                    *count = count.saturating_add(1);
+                }
             }
         }
     }
@@ -44,28 +45,24 @@ impl fmt::Display for Tally {
     fn fmt<W: fmt::Write>(&self, f: &mut fmt::Formatter<W>) -> fmt::Result {
         let designs = self.designs;
         write!(f, "{designs} are designs")?;
-        for i in 0..5usize {
-            let condition = i + 1;
-            let count = self.missed[i];
+        for (i, count) in self.missed.iter().enumerate() {
+            let condition = i.saturating_add(1);
             write!(f, ", {count} miss {condition}")?;
         }
         Ok(())
     }
 }
 
-// What the tester says: 0 for a design, else the condition; what it should never say here is above these.
-fn asked(heap: Global, rules: &PlainRules, design: &PlainDesign) -> Result<u64, AllocError> {
+// What the tester says.
+fn asked(
+    heap: Global,
+    rules: &PlainRules,
+    design: &PlainDesign,
+) -> Result<Result<(), CheckFailure>, AllocError> {
     let rules = rules.lent(heap)?;
     let design = design.lent(heap)?;
     let mut tableau = [[0; 16]; 8];
-    Ok(
-        match check_design(rules.as_slice(), design.as_slice(), &mut tableau) {
-            Ok(()) => 0,
-            Err(CheckFailure::Refused(Refusal::NotADesign(condition))) => condition.number(),
-            Err(CheckFailure::Refused(refusal)) => refusal.number().saturating_add(100),
-            Err(CheckFailure::ShortTableau(_)) => 200,
-        },
-    )
+    Ok(check_design(rules.as_slice(), design.as_slice(), &mut tableau))
 }
 
 fn show(rt: &HostRuntime, rules: &PlainRules, design: &PlainDesign) -> anyhow::Result<()> {
@@ -90,11 +87,11 @@ fn agrees(
     let obeying = Obeying::of(rt.alloc(), tables, &rules)?;
     for _ in 0..SPLITTINGS {
         let design = random_splitting(rt.alloc(), random, &rules, &obeying)?;
-        let plain = design.first_missed(tables, &obeying, &rules);
+        let plain = design.verdict(tables, &obeying, &rules);
         let proved = asked(rt.alloc(), &rules, &design)?;
-        if plain != proved {
+        if plain.map_err(|missed| CheckFailure::Refused(Refusal::NotADesign(missed))) != proved {
             show(rt, &rules, &design)?;
-            println!(rt; "  by small tables {plain}, by check_design {proved}")?;
+            println!(rt; "  by small tables {plain:?}, by check_design {proved:?}")?;
             return Ok(false);
         }
         tally.count(plain);

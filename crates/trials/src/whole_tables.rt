@@ -1,7 +1,7 @@
 // Random tables laid whole into the parts of a design for random rules and joined again, beside one plain table.
 use crate::days::random_row;
 use crate::generator::Random;
-use crate::one_table::{COLUMNS, OneTable, Row};
+use crate::one_table::{Answer, COLUMNS, OneTable, Row};
 use crate::plain_rules::{PlainRules, Size, random_rules};
 use crate::splittings::made;
 use anyhow::anyhow;
@@ -19,12 +19,17 @@ const SIZE: Size = Size {
     rules: 4,
 };
 
-// What one side says of a table: the number of the first refusal and its row, or 0 and how many rows there are; and which rows
-// are there in the end.
+// The first row that is refused, and what is told of it.
+#[derive(Clone, Copy, PartialEq, Eq, Debug)]
+struct Refused {
+    row: u64,
+    answer: Answer,
+}
+
+// What one side says of a table: how many rows were taken, or the first that was refused; and which rows are there in the end.
 #[derive(Drop)]
 struct Outcome {
-    number: u64,
-    row: u64,
+    told: Result<usize, Refused>,
     table: OneTable,
 }
 
@@ -51,13 +56,9 @@ fn cut(heap: Global, joined: &[[u64; 16]]) -> anyhow::Result<OneTable> {
     let mut rows = Vec::new(heap);
     for row in joined {
         let mut short = [0; COLUMNS];
-        for c in 0..COLUMNS {
-            short[c] = row[c];
-        }
-        for c in COLUMNS..16 {
-            if row[c] != 0 {
-                short[0] = u64::MAX;
-            }
+        short.copy_from_slice(&row[..COLUMNS]);
+        if row[COLUMNS..].iter().any(|cell| *cell != 0) {
+            short[0] = u64::MAX;
         }
         rows.push(short)?;
     }
@@ -79,8 +80,7 @@ fn in_parts(
     let table = flat(heap, rows, rules.columns)?;
     match lay_and_join(heap, &mut register, table.as_slice()) {
         Ok(joined) => Ok(Outcome {
-            number: 0,
-            row: rows.len() as u64,
+            told: Ok(rows.len()),
             table: cut(heap, joined.as_slice())?,
         }),
         Err(TripFailure::Laid(refused)) => {
@@ -89,8 +89,10 @@ fn in_parts(
                 Err(_) => return Err(anyhow!("{:?}", "the parts could not be joined")),
             };
             Ok(Outcome {
-                number: refused.refusal.number(),
-                row: refused.row,
+                told: Err(Refused {
+                    row: refused.row,
+                    answer: Answer::from(refused.refusal.number()),
+                }),
                 table: cut(heap, left.as_slice())?,
             })
         }
@@ -104,19 +106,18 @@ fn in_one_table(heap: Global, rules: &PlainRules, rows: &[Row]) -> anyhow::Resul
         rows: Vec::new(heap),
     };
     for (i, row) in rows.iter().enumerate() {
-        let number = table.put_in(rules.list.as_slice(), row)?;
-        if number != 0 {
+        let answer = table.put_in(rules.list.as_slice(), row)?;
+        if answer != Answer::Done {
             table.rows.clear();
+            let row = i as u64;
             return Ok(Outcome {
-                number,
-                row: i as u64,
+                told: Err(Refused { row, answer }),
                 table,
             });
         }
     }
     Ok(Outcome {
-        number: 0,
-        row: rows.len() as u64,
+        told: Ok(rows.len()),
         table,
     })
 }
@@ -131,16 +132,15 @@ fn all_in(one: &OneTable, other: &OneTable) -> bool {
 }
 
 fn same(parts: &Outcome, whole: &Outcome) -> bool {
-    let told = parts.number == whole.number && parts.row == whole.row;
+    let told = parts.told == whole.told;
     let count = parts.table.rows.len() == whole.table.rows.len();
     told && count && all_in(&parts.table, &whole.table) && all_in(&whole.table, &parts.table)
 }
 
 fn show(rt: &HostRuntime, side: &str, outcome: &Outcome) -> anyhow::Result<()> {
-    let number = outcome.number;
-    let row = outcome.row;
+    let told = outcome.told;
     let rows = outcome.table.rows.as_slice();
-    println!(rt; "  {side}: {number} at row {row}, and then {rows:?}")?;
+    println!(rt; "  {side}: {told:?}, and then {rows:?}")?;
     Ok(())
 }
 
@@ -188,7 +188,7 @@ pub fn run(rt: &HostRuntime) -> anyhow::Result<()> {
         let Some(first) = compared(rt, &rules, design.as_slice(), rows.as_slice())? else {
             return Ok(());
         };
-        if first.number != 0 {
+        if first.told.is_err() {
             refused = refused.saturating_add(1);
         }
         let table = obeying(heap, &rules, rows.as_slice())?;

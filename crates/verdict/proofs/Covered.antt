@@ -1,5 +1,5 @@
 -- Columns taken out of all as parts have them: what is missing in the end is in no part. Assumes nothing.
-use Rattle.std.proofs.Common.{◌≡◌, ℕ, zero, suc, ◌+◌, ◌*◌, ◌<◌, ◌≤◌, Bool, true, false, not, ◌&&◌, List, [], get_or, drop, sym, refl, ap, ◌∙◌, subst, inl, inr, arith}
+use Rattle.std.proofs.Common.{◌≡◌, ℕ, zero, suc, ◌+◌, ◌*◌, ◌<◌, ◌≤◌, Bool, true, false, not, ◌&&◌, List, [], ◌∷◌, get_or, drop, sym, refl, ap, ◌∙◌, subst, inl, inr, arith}
 use Rattle.std.proofs.lemmas.Bool.{both_ways, cases_Bool, and_parts, not-true}
 use Rattle.columns.specs.Cols.{Cols, has, all_in, columns}
 use Rattle.columns.specs.Members.{In, Sub}
@@ -10,7 +10,6 @@ use Rattle.dependencies.specs.Tables.{Dep}
 use Rattle.verdict.specs.Decided.{Condition}
 use Rattle.verdict.specs.Deciding.{Decides}
 use Rattle.schema.specs.Design.{Part, no_part}
-use Rattle.verdict.specs.Given.{headed}
 use Rattle.schema.specs.Layout.{parts_in}
 
 abbrev pub Covered : ℕ → List Part → Type 0
@@ -21,13 +20,10 @@ pub record CoveringSo (all : Cols) (ps : List Part) (missing : Cols) (todo : Lis
   pub done : (c : ℕ) → has all c ≡ true → has missing c ≡ false → Covered c ps
   pub inside : Sub todo ps
 
-pub covering_start : (all : Cols) (ps : List Part) → CoveringSo all ps all ps
-covering_start all ps = record { left = λ c h. (h, λ k. k); done = λ c h k. absurd (both_ways (has all c) k h); inside = λ p h. h }
-
-pub covering_turn : (all : Cols) (ps : List Part) (missing next part : Cols) (todo rest : List Part) → todo ≡ headed part todo → rest ≡ drop 1 todo
-    → ((c : ℕ) → has next c ≡ (has missing c && not (has part c))) → CoveringSo all ps missing todo → CoveringSo all ps next rest
-covering_turn all ps missing next part todo rest e r d h =
-    let x : Part = record { cols = part; rules = (get_or todo 0 no_part).rules } in
+pub covering_turn : (all : Cols) (ps : List Part) (missing next : Cols) (x : Part) (todo rest : List Part) → todo ≡ x ∷ rest
+    → ((c : ℕ) → has next c ≡ (has missing c && not (has x.cols c))) → CoveringSo all ps missing todo → CoveringSo all ps next rest
+covering_turn all ps missing next x todo rest e d h =
+    let part = x.cols in
     record {
       left = λ c k.
           let w = and_parts (has missing c) (not (has part c)) (sym (d c) ∙ k) in
@@ -37,7 +33,7 @@ covering_turn all ps missing next part todo rest e r d h =
                 let z = old.1 v in
                 elim (subst (λ ys. In z.0 ys) e z.1) [
                   | inl q ↦ absurd (both_ways (has part c) (not-true (has part c) w.1) (subst (λ (y : Part). has y.cols c ≡ true) (sym q) z.2))
-                  | inr q ↦ (z.0, subst (λ ys. In z.0 ys) (sym r) q, z.2)
+                  | inr q ↦ (z.0, q, z.2)
                 ],
           );
       done = λ c a k.
@@ -49,7 +45,7 @@ covering_turn all ps missing next part todo rest e r d h =
                   | inr q ↦ absurd (both_ways (has next c) k (d c ∙ ap (λ (b : Bool). b && not (has part c)) m ∙ ap not q))
                 ]
           ];
-      inside = λ p i. h.inside p (subst (λ ys. In p ys) (sym e) (inr (subst (λ ys. In p ys) r i)));
+      inside = λ p i. h.inside p (subst (λ ys. In p ys) (sym e) (inr i));
     }
 
 -- parts from numbers name columns of the table only

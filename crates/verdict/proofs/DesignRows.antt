@@ -1,10 +1,11 @@
 -- Designs as bytes: one part more, and how many numbers there are.
-use Rattle.std.proofs.Common.{◌≡◌, ℕ, zero, suc, ◌+◌, ◌-◌, ◌*◌, ◌/◌, ◌<◌, ◌≤◌, min, leb, List, [], ◌∷◌, ◌++◌, length, get_or, take, drop, set, sym, refl, ap, ◌∙◌, inl, inr, arith, length-append, length-drop}
-use Rattle.std.proofs.lemmas.List.{take_all, drop_all, drop-drop, length-take-le, take_more}
+use Rattle.std.proofs.Common.{map, ◌≡◌, ℕ, zero, suc, ◌+◌, ◌-◌, ◌*◌, ◌/◌, ◌<◌, ◌≤◌, min, leb, List, [], ◌∷◌, ◌++◌, length, get_or, take, drop, set, sym, refl, ap, ◌∙◌, subst, inl, inr, arith, length-append, length-drop}
+use Rattle.std.specs.Simd.{first_chunks}
+use Rattle.std.proofs.lemmas.List.{map-append, length-map, take_all, drop_all, drop-drop, length-take-le, take_more}
 use Rattle.std.proofs.lemmas.Bool.{leb-true, leb-false, cases_Bool}
 use Rattle.dependencies.specs.Bytes.{sets_in_bytes}
 use Rattle.dependencies.specs.Lent.{put_list}
-use Rattle.dependencies.proofs.ByteRows.{sets_length, sets_at}
+use Rattle.dependencies.proofs.ByteRows.{set_of}
 use Rattle.dependencies.proofs.Lent.{put_append}
 use Rattle.verdict.specs.DesignBytes.{parts_of_bytes, design_of_bytes}
 
@@ -55,16 +56,29 @@ parts_ended (suc k) (a ∷ []) h = refl
 parts_ended (suc k) (a ∷ (b ∷ [])) h = refl
 parts_ended (suc k) (a ∷ (b ∷ (c ∷ bs))) h = absurd (omega arith)
 
--- one set more
-pub set_more : (row : List ℕ) (at : ℕ) (bs : List ℕ) (i : ℕ) → 2 * i + 1 < length bs
-    → set (put_list row at (take i (sets_in_bytes bs))) (at + i) (get_or bs (2 * i) 0 + 256 * get_or bs (2 * i + 1) 0) ≡ put_list row at (take (i + 1) (sets_in_bytes bs))
+-- ---- the numbers of pairs of bytes
+sets_length : (bs : List ℕ) → length (sets_in_bytes bs) ≡ length bs / 2
+unfolding sets_in_bytes
+sets_length [] = refl
+sets_length (a ∷ []) = refl
+sets_length (a ∷ (b ∷ bs)) = omega (arith, sets_length bs)
+
+pub all_pairs : (bs : List ℕ) → map set_of (first_chunks 2 (length bs / 2) bs) ≡ sets_in_bytes bs
+unfolding sets_in_bytes
+all_pairs [] = refl
+all_pairs (a ∷ []) = refl
+all_pairs (a ∷ (b ∷ bs)) =
+    let e : length (a ∷ (b ∷ bs)) / 2 ≡ suc (length bs / 2) = omega arith in
+    ap (λ (k : ℕ). map set_of (first_chunks 2 k (a ∷ (b ∷ bs)))) e ∙ ap (λ (ys : List ℕ). (a + 256 * b) ∷ ys) (all_pairs bs)
+
+-- one pair more is written
+pub pair_more : (row : List ℕ) (at : ℕ) (pairs : List (List ℕ)) (i : ℕ) → i < length pairs
+    → set (put_list row at (map set_of (take i pairs))) (at + i) (set_of (get_or pairs i [])) ≡ put_list row at (map set_of (take (i + 1) pairs))
 unfolding put_list
-set_more row at bs i h =
-    let ss = sets_in_bytes bs in
-    let there : i < length ss = omega (arith, sets_length bs) in
-    ap (λ (v : ℕ). set (put_list row at (take i ss)) (at + i) v) (sym (sets_at bs i h))
-    ∙ sym (put_append row at (at + i) (take i ss) (get_or ss i 0 ∷ []) (omega (arith, length-take-le i ss (omega arith))))
-    ∙ ap (λ (v : List ℕ). put_list row at v) (sym (take_more ss i 0 there))
+pair_more row at pairs i h =
+    let pair = get_or pairs i [] in
+    sym (put_append row at (at + i) (map set_of (take i pairs)) (set_of pair ∷ []) (omega (arith, length-map (take i pairs) set_of, length-take-le i pairs (omega arith))))
+    ∙ ap (λ (v : List ℕ). put_list row at v) (sym (ap (map set_of) (take_more pairs i [] h) ∙ map-append set_of (take i pairs) (pair ∷ [])))
 
 -- a design is how many parts it has, and the parts
 design_is : (bs : List ℕ) → 1 ≤ length bs → design_of_bytes bs ≡ get_or bs 0 0 ∷ parts_of_bytes (get_or bs 0 0) (drop 1 bs)
@@ -125,7 +139,7 @@ module _ (bytes first : List ℕ) (i at : ℕ) (left row : List ℕ) (so : Readi
       sets_length (take (own_bytes left) (drop 3 left))
       ∙ ap (λ (j : ℕ). j / 2) (length-take-le (own_bytes left) (drop 3 left) (omega (arith, length-drop 3 left)))
 
-  pub reading_turn : i < get_or bytes 0 0 → 3 ≤ length left → Reading bytes first (i + 1) (at + (2 + own_bytes left / 2)) behind (put_list two (at + 2) sets)
+  reading_turn : i < get_or bytes 0 0 → 3 ≤ length left → Reading bytes first (i + 1) (at + (2 + own_bytes left / 2)) behind (put_list two (at + 2) sets)
   unfolding put_list
   reading_turn l h =
       let k = get_or bytes 0 0 - (i + 1) in
@@ -144,6 +158,14 @@ module _ (bytes first : List ℕ) (i at : ℕ) (left row : List ℕ) (so : Readi
         many = so.many ∙ ap (λ (v : List ℕ). at + length v) more ∙ omega (arith, length-append sets (parts_of_bytes k behind));
         few = omega (arith, so.few, length-drop (3 + own_bytes left) left);
       }
+
+  -- the same of a part that is written by other names
+  pub reading_on : i < get_or bytes 0 0 → 3 ≤ length left → (size : ℕ) (next next_row : List ℕ) → size ≡ own_bytes left → next ≡ behind → next_row ≡ put_list two (at + 2) sets
+      → Reading bytes first (i + 1) (at + (2 + size / 2)) next next_row
+  reading_on l h size next next_row e f g =
+      subst (λ (j : ℕ). Reading bytes first (i + 1) (at + (2 + j / 2)) next next_row) (sym e)
+      (subst (λ (v : List ℕ). Reading bytes first (i + 1) (at + (2 + own_bytes left / 2)) v next_row) (sym f)
+      (subst (λ (v : List ℕ). Reading bytes first (i + 1) (at + (2 + own_bytes left / 2)) behind v) (sym g) (reading_turn l h)))
 
   -- nothing is left
   finished : (row₀ : List ℕ) → first ≡ set row₀ 0 (get_or bytes 0 0) → 1 ≤ length bytes → parts_of_bytes (get_or bytes 0 0 - i) left ≡ [] → Read bytes row₀ row at

@@ -46,10 +46,6 @@ rule_fits n (suc k) xs e h =
     let q : 2 * suc k ≡ suc (suc (2 * (suc k - 1))) = omega arith in
     two_fit n (2 * (suc k - 1)) xs (subst (λ (v : ℕ). all_sets_fit n v xs ≡ true) q h)
 
-pub no_sets : (n : ℕ) (xs : List ℕ) → all_sets_fit n 0 xs ≡ true
-unfolding all_sets_fit
-no_sets n xs = refl
-
 pub no_parts : (n k : ℕ) (xs : List ℕ) → k ≡ 0 → parts_in n k xs ≡ []
 unfolding parts_in
 no_parts n zero xs e = refl

@@ -10,7 +10,6 @@ pub mod GivenWalk
 pub mod Sweeping
 pub mod Tableaux
 pub mod GivenSmall
-pub mod GivenLoops
 pub mod Wholes
 pub mod Covered
 pub mod OwnRounds

@@ -1,23 +1,19 @@
 -- The first tableau, row by row, and what the last one says. Assumes nothing.
-use Rattle.std.proofs.Common.{◌≡◌, ℕ, suc, ◌+◌, ◌<◌, ◌≤◌, Bool, true, false, ltb, List, [], ◌∷◌, ◌++◌, length, get_or, take, drop, set, replicate, sym, refl, ap, ◌∙◌, subst, inl, inr, append_assoc, append-nil, add-one, arith, length-set, get_or-set_other, get_or-set_same}
-use Rattle.std.proofs.lemmas.Bool.{cases_eq, cases_Bool, ltb-true, ltb-false, true≢false}
-use Rattle.std.proofs.lemmas.List.{get_or-replicate, take_all, take_more_set}
-use Rattle.columns.specs.Cols.{Cols, pick, has, Rising, columns}
+use Rattle.std.proofs.Common.{◌≡◌, ℕ, suc, ◌+◌, ◌<◌, ◌≤◌, Bool, true, false, ltb, List, [], ◌∷◌, ◌++◌, length, get_or, take, set, sym, refl, ap, ◌∙◌, subst, inl, inr, append_assoc, add-one, arith, length-set}
+use Rattle.std.proofs.lemmas.Bool.{cases_Bool, ltb-true, ltb-false, true≢false}
+use Rattle.std.proofs.lemmas.List.{take_more_set}
+use Rattle.columns.specs.Cols.{columns}
 use Rattle.columns.specs.Every.{any}
-use Rattle.columns.specs.Members.{In, Sub}
-use Rattle.columns.proofs.Columns.{has_in, in_has, not_in_has, below}
+use Rattle.columns.proofs.Columns.{below}
 use Rattle.columns.proofs.Everyone.{any_some, any_from}
-use Rattle.columns.proofs.Lists.{same_test}
 use Rattle.columns.proofs.Members.{at_in}
-use Rattle.columns.proofs.Rising.{rising_low}
 use Rattle.dependencies.specs.Tables.{Row, Dep, agree, draw, zero_row}
-use Rattle.dependencies.proofs.Drawn.{cells_drawn, drawn}
+use Rattle.dependencies.proofs.Drawn.{drawn}
 use Rattle.dependencies.proofs.Rows.{agree_same, same_agree}
 use Rattle.dependencies.proofs.Smalls.{Small}
 use Rattle.verdict.specs.Chase.{first_cell, tableau}
 use Rattle.verdict.specs.Deciding.{Decides}
 use Rattle.schema.specs.Design.{Part, LosesNothing}
-use Rattle.verdict.specs.Given.{headed}
 use Rattle.verdict.specs.Sweeps.{Chased, AllQuiet}
 use Rattle.verdict.proofs.ChaseComplete.{Zeros, start_zeros, mend_zeros, faultless_zeros}
 use Rattle.verdict.proofs.ChaseSound.{Reads, reads_mend, start_reads, choose, value}
@@ -25,88 +21,29 @@ use Rattle.verdict.proofs.Faults.{fault_why, Faultless}
 use Rattle.schema.proofs.Looks.{seen_loses}
 use Rattle.verdict.proofs.Sweeping.{chased_kept}
 
--- a row of 16 cells in which the columns of p that are not left over are 0 already
-abbrev cell : Cols → Cols → ℕ → ℕ → ℕ
-cell rest p own i = pick (has rest i) own (first_cell p own i)
-
-pub record Filling (xs : List ℕ) (rest p : Cols) (own : ℕ) : Type 0 where
-  pub long : length xs ≡ 16
-  pub cells : (i : ℕ) → i < 16 → get_or xs i 0 ≡ cell rest p own i
-  pub inside : Sub rest p
-
-all_own : (b : Bool) (own : ℕ) → own ≡ pick b own (pick b 0 own)
-all_own true own = refl
-all_own false own = refl
-
-pub filling_start : (p : Cols) (own : ℕ) → Filling (replicate 16 own) p p own
-filling_start p own = record { long = refl; cells = λ i l. get_or-replicate 16 i own 0 l ∙ all_own (has p i) own; inside = λ c i. i }
-
-pub filling_turn : (xs : List ℕ) (c : ℕ) (before rest p : Cols) (own : ℕ) → c < 16 → Rising before → before ≡ c ∷ rest → Filling xs before p own → Filling (set xs c 0) rest p own
-filling_turn xs c before rest p own l r e h =
-    let r' : Rising (c ∷ rest) = subst Rising e r in
-    let old : (i : ℕ) → In i (c ∷ rest) → In i p = λ i j. h.inside i (subst (λ v. In i v) (sym e) j) in
-    record {
-      long = length-set xs c 0 ∙ h.long;
-      cells = λ i m.
-          elim (cases_eq i c) [
-            | inl q ↦
-                let gone : has rest c ≡ false = not_in_has rest c (λ j. let s : c < c = rising_low r' c j in omega arith) in
-                let was : has p c ≡ true = in_has p c (old c (inl refl)) in
-                let low : c < length xs = omega (arith, h.long) in
-                let here : get_or (set xs c 0) c 0 ≡ cell rest p own c = rw get_or-set_same (sym (ap (λ b. pick b own (pick (has p c) 0 own)) gone ∙ ap (λ b. pick b 0 own) was)) in
-                subst (λ v. get_or (set xs c 0) v 0 ≡ cell rest p own v) (sym q) here
-            | inr ne ↦
-                let same : has before i ≡ has rest i = same_test (has before i) (has rest i)
-                (λ t. elim (subst (λ v. In i v) e (has_in before i t)) [ inl q ↦ absurd (ne (sym q)) | inr j ↦ in_has rest i j ])
-                (λ t. in_has before i (subst (λ v. In i v) (sym e) (inr (has_in rest i t)))) in
-                rw get_or-set_other (h.cells i m ∙ ap (λ b. pick b own (pick (has p i) 0 own)) same)
-          ];
-      inside = λ i j. old i (inr j);
-    }
-
-pub filling_end : (xs : List ℕ) (rest p : Cols) (own : ℕ) → rest ≡ [] → Filling xs rest p own → xs ≡ draw (first_cell p own) 0 16
-filling_end xs rest p own e h =
-    let none : (i : ℕ) → has rest i ≡ false = λ i. not_in_has rest i (λ j. subst (λ v. In i v) e j) in
-    let all : length xs ≤ 16 = omega (arith, h.long) in
-    sym (take_all 16 xs all)
-    ∙ cells_drawn (first_cell p own) 16 xs (omega (arith, h.long)) (λ i m. h.cells i m ∙ ap (λ b. pick b own (first_cell p own i)) (none i))
-
-no_length : {A : Type 0} (xs : List A) → length xs ≡ 0 → xs ≡ []
-no_length [] e = refl
-no_length (x ∷ xs) e = absurd (omega arith)
-
 -- the rows before i are written, and the parts that are left make those behind
 pub record Laying (n : ℕ) (rows : List Row) (i : ℕ) (left all : List Part) : Type 0 where
   pub front : take i rows ++ tableau n i left ≡ tableau n 0 all
   pub count : i + length left ≡ length rows
 
-pub laying_turn : (n : ℕ) (rows : List Row) (i : ℕ) (r : Row) (cs : Cols) (left rest all : List Part) → i < length rows → left ≡ headed cs left
-    → r ≡ draw (first_cell cs (i + 1)) 0 n → rest ≡ drop 1 left → Laying n rows i left all → Laying n (set rows i r) (i + 1) rest all
-laying_turn n rows i r cs left rest all l e q z h =
+pub laying_turn : (n : ℕ) (rows : List Row) (i : ℕ) (r : Row) (p : Part) (left rest all : List Part) → i < length rows → left ≡ p ∷ rest
+    → r ≡ draw (first_cell p.cols (i + 1)) 0 n → Laying n rows i left all → Laying n (set rows i r) (i + 1) rest all
+laying_turn n rows i r p left rest all l e q h =
+    let cs = p.cols in
     let a : take (i + 1) (set rows i r) ≡ take i rows ++ r ∷ [] = take_more_set rows i r l in
-    let next : tableau n (i + 1) rest ≡ tableau n (suc i) (drop 1 left)
-    = ap (λ (v : List Part). tableau n (i + 1) v) z ∙ ap (λ (k : ℕ). tableau n k (drop 1 left)) (add-one i) in
+    let next : tableau n (i + 1) rest ≡ tableau n (suc i) rest = ap (λ (k : ℕ). tableau n k rest) (add-one i) in
     let row : r ≡ draw (first_cell cs (suc i)) 0 n = q ∙ ap (λ (k : ℕ). draw (first_cell cs k) 0 n) (add-one i) in
-    let len : length left ≡ suc (length (drop 1 left)) = ap length e in
-    let same : length rest ≡ length (drop 1 left) = ap length z in
+    let len : length left ≡ suc (length rest) = ap length e in
     record {
       front =
           ap (λ (v : List Row). v ++ tableau n (i + 1) rest) a
           ∙ append_assoc (take i rows) (r ∷ []) (tableau n (i + 1) rest)
           ∙ ap (λ (v : List Row). take i rows ++ r ∷ v) next
-          ∙ ap (λ (v : Row). take i rows ++ v ∷ tableau n (suc i) (drop 1 left)) row
+          ∙ ap (λ (v : Row). take i rows ++ v ∷ tableau n (suc i) rest) row
           ∙ ap (λ (v : List Part). take i rows ++ tableau n i v) (sym e)
           ∙ h.front;
       count = omega (arith, h.count, length-set rows i r);
     }
-
-pub laying_end : (n : ℕ) (rows : List Row) (i : ℕ) (left all : List Part) → length rows ≤ i → Laying n rows i left all → rows ≡ tableau n 0 all
-laying_end n rows i left all l h =
-    let e : left ≡ [] = no_length left (omega (arith, h.count)) in
-    sym (append-nil rows)
-    ∙ ap (λ (v : List Row). v ++ []) (sym (take_all i rows l))
-    ∙ ap (λ (v : List Part). take i rows ++ tableau n i v) (sym e)
-    ∙ h.front
 
 quiet_faultless : (ds : List Dep) (t : List Row) → AllQuiet ds t → Faultless ds t
 quiet_faultless ds t q f h =

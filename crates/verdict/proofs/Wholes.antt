@@ -3,7 +3,8 @@ use Rattle.std.proofs.Common.{◌≡◌, ℕ, zero, suc, ◌+◌, ◌-◌, ◌*�
 use Rattle.std.proofs.lemmas.Bool.{and_parts, and_from, leb-true, le-leb, cases_Bool}
 use Rattle.columns.proofs.Lists.{same_test}
 use Rattle.schema.specs.Layout.{extent, all_sets_fit, parts_fit}
-use Rattle.verdict.specs.Given.{is_readable, is_first_whole, is_whole}
+use Rattle.schema.specs.Layout.{is_first_whole}
+use Rattle.verdict.specs.Given.{is_readable, is_whole}
 use Rattle.verdict.proofs.GivenWalk.{size}
 
 one_fits : (n k : ℕ) (xs : List ℕ) → parts_fit n (suc k) xs ≡ ((ltb (get_or xs 0 0) (2 ^ n) && all_sets_fit n (2 * get_or xs 1 0) (drop 2 xs)) && parts_fit n k (drop (size xs) xs))

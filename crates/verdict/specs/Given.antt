@@ -1,10 +1,11 @@
 -- What a design stands for that somebody else made, and when numbers are one.
-use Rattle.std.specs.Prelude.{ℕ, ◌+◌, ◌*◌, ◌^◌, Bool, ◌&&◌, List, ◌∷◌, length, drop, nat_le, nat_lt, slice_index, slice_index_or}
+use Rattle.std.specs.Prelude.{ℕ, ◌+◌, ◌*◌, ◌^◌, Bool, ◌&&◌, List, length, drop, nat_le, nat_lt, slice_index}
 use Rattle.dependencies.specs.Tables.{Dep}
 use Rattle.dependencies.specs.Layout.{rules_in}
-use Rattle.schema.specs.Design.{Part, no_part}
-use Rattle.columns.specs.Cols.{Cols}
+use Rattle.schema.specs.Design.{Part}
+use Rattle.columns.specs.Sets.{cols}
 use Rattle.schema.specs.Layout.{parts_in, parts_fit, all_sets_fit, extent, extent_of_design}
+use Rattle.verdict.specs.declared.own_rules.GivenPart.{GivenPart}
 use Rattle.verdict.specs.declared.own_rules.OwnRules.{OwnRules}
 use Rattle.verdict.specs.declared.given_design.GivenDesign.{GivenDesign}
 
@@ -20,14 +21,10 @@ given_parts g = parts_in g.width.columns g.count g.numbers.now
 abbrev pub is_readable : ℕ → List ℕ → Bool
 is_readable n xs = nat_le (extent_of_design xs) (length xs) && parts_fit n (slice_index xs 0) (drop 1 xs)
 
--- parts of which the first has the columns cs
-abbrev pub headed : Cols → List Part → List Part
-headed cs ps = record { cols = cs; rules = (slice_index_or ps 0 no_part).rules } ∷ drop 1 ps
+-- what a part of them stands for
+abbrev pub given_part : GivenPart → Part
+given_part p = record { cols = cols p.set; rules = own_of p.rules }
 
--- the first part is there whole, and names columns of the table only
-abbrev pub is_first_whole : ℕ → List ℕ → Bool
-is_first_whole n xs = nat_le (2 + 2 * slice_index xs 1) (length xs) && (nat_lt (slice_index xs 0) (2 ^ n) && all_sets_fit n (2 * slice_index xs 1) (drop 2 xs))
-
--- so are the first k
+-- the first k parts are there whole, and name columns of the table only
 abbrev pub is_whole : ℕ → ℕ → List ℕ → Bool
 is_whole n k xs = nat_le (extent k xs) (length xs) && parts_fit n k xs

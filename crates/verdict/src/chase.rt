@@ -7,8 +7,8 @@ ghost use Rattle.columns.specs.Every.{any};
 ghost use Rattle.columns.specs.Sets.{cols};
 ghost use Rattle.dependencies.specs.Rules.{dep, deps};
 ghost use Rattle.dependencies.specs.Reads.{rules_of};
-ghost use Rattle.dependencies.specs.Tables.{agree, draw, zero_row};
-ghost use Rattle.verdict.specs.Chase.{first_cell, put_low, mend, tableau};
+ghost use Rattle.dependencies.specs.Tables.{agree, zero_row};
+ghost use Rattle.verdict.specs.Chase.{put_low, mend, tableau};
 ghost use Rattle.verdict.specs.Deciding.{Decides};
 ghost use Rattle.schema.specs.Design.{LosesNothing};
 ghost use Rattle.verdict.specs.Given.{given_parts};
@@ -16,7 +16,7 @@ ghost use Rattle.verdict.specs.Sweeps.{Sweep, PairQuiet, RowQuiet, RuleQuiet, Al
 
 use crate::given_design::GivenDesign;
 use columns::{Column, ColumnSet, Width};
-use dependencies::{Rule, RuleSet};
+use dependencies::{Rule, RuleSet, agrees, row_apart};
 
 // In a column, the larger of two numbers becomes the smaller.
 #[derive(Clone, Copy)]
@@ -24,19 +24,6 @@ pub(crate) struct Merge {
     pub(crate) column: Column,
     pub(crate) low: u64,
     pub(crate) high: u64,
-}
-
-// Whether two rows are equal in all these columns.
-fn agree_on(one: &[u64; 16], two: &[u64; 16], columns: ColumnSet) -> bool
-    ensures { result ≡ agree (cols columns) one.now two.now }
-{
-    let mut todo = columns;
-    while let Some(c) = todo.take_first() {
-        if one[c.index() as usize] != two[c.index() as usize] {
-            return false;
-        }
-    }
-    true
 }
 
 // A row after a merge.
@@ -53,8 +40,8 @@ fn lower_row(row: &mut [u64; 16], merge: Merge)
 fn lower(rows: &mut [[u64; 16]], merge: Merge)
     ensures { rows.new ≡ mend (fault merge) rows.old }
 {
-    for i in 0..rows.len() {
-        lower_row(&mut rows[i], merge);
+    for row in rows.iter_mut() {
+        lower_row(row, merge);
     }
 }
 
@@ -69,25 +56,12 @@ fn merge_at(rows: &mut [[u64; 16]], c: Column, one: usize, two: usize) -> bool
     if a == b {
         return false;
     }
-    if a < b {
-        lower(
-            rows,
-            Merge {
-                column: c,
-                low: a,
-                high: b,
-            },
-        );
-    } else {
-        lower(
-            rows,
-            Merge {
-                column: c,
-                low: b,
-                high: a,
-            },
-        );
-    }
+    let merge = Merge {
+        column: c,
+        low: a.min(b),
+        high: a.max(b),
+    };
+    lower(rows, merge);
     true
 }
 
@@ -97,13 +71,13 @@ fn apply(rows: &mut [[u64; 16]], rule: Rule, one: usize, two: usize) -> bool
     requires two_in_bounds { two < length rows.old }
     ensures { Sweep (dep rule ∷ []) (PairQuiet (dep rule) rows.old one two) rows.old rows.new result }
 {
-    if !agree_on(&rows[one], &rows[two], rule.left) {
+    if !agrees(rule.left, &rows[one], &rows[two]) {
         return false;
     }
     let mut changed = false;
     let mut todo = rule.right;
     while let Some(c) = todo.take_first() {
-        changed = changed | merge_at(rows, c, one, two);
+        changed |= merge_at(rows, c, one, two);
     }
     changed
 }
@@ -114,8 +88,9 @@ fn sweep_row(rows: &mut [[u64; 16]], rule: Rule, one: usize) -> bool
     ensures { Sweep (dep rule ∷ []) (RowQuiet (dep rule) rows.old (length rows.old) one) rows.old rows.new result }
 {
     let mut changed = false;
+    // By places, since any two rows of the one slice may change.
     for two in one + 1..rows.len() {
-        changed = changed | apply(rows, rule, one, two);
+        changed |= apply(rows, rule, one, two);
     }
     changed
 }
@@ -126,7 +101,7 @@ fn sweep_rule(rows: &mut [[u64; 16]], rule: Rule) -> bool
 {
     let mut changed = false;
     for one in 0..rows.len() {
-        changed = changed | sweep_row(rows, rule, one);
+        changed |= sweep_row(rows, rule, one);
     }
     changed
 }
@@ -137,7 +112,7 @@ fn sweep(rows: &mut [[u64; 16]], rules: &[Rule]) -> bool
 {
     let mut changed = false;
     for rule in rules {
-        changed = changed | sweep_rule(rows, *rule);
+        changed |= sweep_rule(rows, *rule);
     }
     changed
 }
@@ -153,30 +128,17 @@ fn chase(rows: &mut [[u64; 16]], rules: &[Rule])
     }
 }
 
-// A row's first numbers: 0 in the part's columns, and its own elsewhere.
-fn first_row(part: ColumnSet, own: u64) -> [u64; 16]
-    ensures { result ≡ draw (first_cell (cols part) own) 0 16 }
-{
-    let mut row = [own; 16];
-    let mut todo = part;
-    while let Some(c) = todo.take_first() {
-        row[c.index() as usize] = 0;
-    }
-    row
-}
-
-// Writes the tableau that the chase begins with.
+// Writes the tableau that the chase begins with: a row is 0 in its part's columns, and has a number of its own elsewhere.
 fn lay_out(rows: &mut [[u64; 16]], design: GivenDesign)
     requires { length rows.old ≡ length (given_parts design) }
     ensures { rows.new ≡ tableau 16 0 (given_parts design.entry) }
 {
     let mut todo = design;
-    for i in 0..rows.len() {
-        let Some(part) = todo.first() else {
+    for (i, row) in rows.iter_mut().enumerate() {
+        let Some(part) = todo.next() else {
             return;
         };
-        rows[i] = first_row(part, i as u64 + 1);
-        todo = todo.rest();
+        *row = row_apart(part.set, i as u64 + 1);
     }
 }
 
@@ -185,21 +147,7 @@ fn has_zero_row(rows: &[[u64; 16]], width: Width) -> bool
     ensures { result ≡ any rows.now (λ x. agree (range_of 0 width.columns) (zero_row 16) x) }
 {
     let all = ColumnSet::all(width);
-    for row in rows {
-        if agree_on(&[0; 16], row, all) {
-            return true;
-        }
-    }
-    false
-}
-
-// Sets all cells to 0.
-fn clear(rows: &mut [[u64; 16]])
-    ensures { rows.new ≡ blank (length rows.old) }
-{
-    for i in 0..rows.len() {
-        rows[i] = [0; 16];
-    }
+    rows.iter().any(|row| agrees(all, &[0; 16], row))
 }
 
 // Whether a row that looks in each part like a row of a table is a row of that table. The rows are worked in, and left all 0.
@@ -213,6 +161,6 @@ pub(crate) fn lossless(rows: &mut [[u64; 16]], rules: &RuleSet, design: GivenDes
     lay_out(rows, design);
     chase(rows, rules.rules());
     let nothing_lost = has_zero_row(rows, rules.width());
-    clear(rows);
+    rows.fill([0; 16]);
     nothing_lost
 }

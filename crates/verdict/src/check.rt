@@ -5,6 +5,7 @@ ghost use Rattle.dependencies.specs.Rules.{deps};
 ghost use Rattle.verdict.specs.Check.{Judged, Checked, Accepted, parts_given};
 ghost use Rattle.verdict.specs.Given.{given_parts};
 ghost use Rattle.verdict.specs.Sweeps.{RowsLeft};
+ghost use Rattle.verdict.specs.declared.check.CheckFailure.TheVariants.{Refused};
 
 use crate::chase::lossless;
 use crate::given_design::GivenDesign;
@@ -21,6 +22,14 @@ pub enum CheckFailure {
     Refused(Refusal),
     // The first two conditions are met, and the tableau lent for the third has fewer rows than the design has parts. Their count.
     ShortTableau(u64),
+}
+
+impl From<Refusal> for CheckFailure {
+    ghost from_gives = { λ refusal failure. failure ≡ Refused refusal };
+
+    fn from(refusal: Refusal) -> CheckFailure {
+        CheckFailure::Refused(refusal)
+    }
 }
 
 // The parts against the rules, in the order of the conditions.
@@ -67,10 +76,7 @@ pub fn check_design(
     ensures accepts { Accepted rules.now design.now (length tableau.old) → result ≡ Ok tt }
     ensures rows { RowsLeft (length (parts_given rules.now design.now)) tableau.old tableau.new }
 {
-    let set = match read_rules(rules) {
-        Ok(set) => set,
-        Err(refusal) => return Err(CheckFailure::Refused(refusal)),
-    };
+    let set = read_rules(rules)?;
     let width = set.width();
     if !readable(design, width) {
         return Err(CheckFailure::Refused(Refusal::NotADesign(Condition::Covers)));

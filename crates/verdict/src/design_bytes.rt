@@ -18,9 +18,9 @@ fn put_sets(row: &mut [u64], at: usize, bytes: &[u8])
     requires { at + length bytes.now < 2 ^ 64 }
     ensures { row.new ≡ put_list row.old at (sets_in_bytes bytes.now) }
 {
-    for i in 0..bytes.len() / 2 {
-        let set = bytes[2 * i] as u64 + 256 * bytes[2 * i + 1] as u64;
-        put(row, at + i, set);
+    let (sets, _) = bytes.as_chunks::<2>();
+    for (i, set) in sets.iter().enumerate() {
+        put(row, at + i, u16::from_le_bytes(*set) as u64);
     }
 }
 
@@ -31,22 +31,22 @@ pub fn design_from_bytes(bytes: &[u8], row: &mut [u64]) -> usize
     ensures count { result ≡ length (design_of_bytes bytes.now) }
     ensures few { result ≤ length bytes.now }
 {
-    if bytes.len() < 1 {
+    let [parts, others @ ..] = bytes else {
         return 0;
-    }
-    put(row, 0, bytes[0] as u64);
+    };
+    put(row, 0, *parts as u64);
     let mut at = 1;
-    let mut left = &bytes[1..];
-    for i in 0..bytes[0] {
-        if left.len() < 3 {
+    let mut left = others;
+    for _ in 0..*parts {
+        let [low, high, own, others @ ..] = left else {
             return at;
-        }
-        put(row, at, left[0] as u64 + 256 * left[1] as u64);
-        put(row, at + 1, left[2] as u64);
-        let size = (4 * left[2] as usize).min(left.len() - 3);
-        put_sets(row, at + 2, &left[3..3 + size]);
+        };
+        put(row, at, u16::from_le_bytes([*low, *high]) as u64);
+        put(row, at + 1, *own as u64);
+        let size = (4 * *own as usize).min(others.len());
+        put_sets(row, at + 2, &others[..size]);
         at += 2 + size / 2;
-        left = &left[3 + size..];
+        left = &others[size..];
     }
     at
 }

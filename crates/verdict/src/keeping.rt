@@ -3,7 +3,7 @@ ghost use Rattle.std.specs.Prelude.{◌≡◌};
 ghost use Rattle.columns.specs.Cols.{Same};
 ghost use Rattle.columns.specs.Every.{every};
 ghost use Rattle.columns.specs.Sets.{cols};
-ghost use Rattle.dependencies.specs.Closure.{round, Closes, do_follow};
+ghost use Rattle.dependencies.specs.Closure.{round, Closes, does_fix, do_follow};
 ghost use Rattle.dependencies.specs.Rules.{dep, deps};
 ghost use Rattle.verdict.specs.Deciding.{Decides};
 ghost use Rattle.schema.specs.Design.{all_rules, KeepsRules};
@@ -19,41 +19,23 @@ use dependencies::{Rule, closure};
 fn stands(rule: Rule, part: ColumnSet, rules: &[Rule]) -> bool
     ensures { result ≡ does_stand (deps rules.now) (cols part) (dep rule) }
 {
-    if !rule.left.is_subset(part) {
-        return false;
-    }
-    if !rule.right.is_subset(part) {
-        return false;
-    }
-    rule.right.is_subset(closure(rules, rule.left))
+    rule.left.is_subset(part)
+        && rule.right.is_subset(part)
+        && rule.right.is_subset(closure(rules, rule.left))
 }
 
 // Whether all rules of a part do.
-fn own_rules_stand(own: OwnRules, part: ColumnSet, rules: &[Rule]) -> bool
+fn own_rules_stand(mut own: OwnRules, part: ColumnSet, rules: &[Rule]) -> bool
     ensures { result ≡ every (own_of own.entry) (does_stand (deps rules.now) (cols part)) }
 {
-    let mut todo = own;
-    while let Some(rule) = todo.first() {
-        if !stands(rule, part, rules) {
-            return false;
-        }
-        todo = todo.rest();
-    }
-    true
+    own.all(|rule| stands(rule, part, rules))
 }
 
 // Whether the rules of all parts do.
-fn all_stand(design: GivenDesign, rules: &[Rule]) -> bool
+fn all_stand(mut design: GivenDesign, rules: &[Rule]) -> bool
     ensures { result ≡ every (given_parts design.entry) (λ p. every p.rules (does_stand (deps rules.now) p.cols)) }
 {
-    let mut todo = design;
-    while let Some(part) = todo.first() {
-        if !own_rules_stand(todo.first_rules(), part, rules) {
-            return false;
-        }
-        todo = todo.rest();
-    }
-    true
+    design.all(|part| own_rules_stand(part.rules, part.set, rules))
 }
 
 // The columns with all that each rule of a part, once and in order, adds to them.
@@ -61,12 +43,10 @@ fn part_round(own: OwnRules, start: ColumnSet) -> ColumnSet
     ensures { Same (cols result) (round (own_of own.entry) (cols start)) }
 {
     let mut all = start;
-    let mut todo = own;
-    while let Some(rule) = todo.first() {
+    for rule in own {
         if rule.left.is_subset(all) {
             all = all.union(rule.right);
         }
-        todo = todo.rest();
     }
     all
 }
@@ -76,10 +56,8 @@ fn design_round(design: GivenDesign, start: ColumnSet) -> ColumnSet
     ensures { Same (cols result) (round (all_rules (given_parts design.entry)) (cols start)) }
 {
     let mut all = start;
-    let mut todo = design;
-    while let Some(_) = todo.first() {
-        all = part_round(todo.first_rules(), all);
-        todo = todo.rest();
+    for part in design {
+        all = part_round(part.rules, all);
     }
     all
 }
@@ -98,17 +76,18 @@ fn design_closure(design: GivenDesign, start: ColumnSet) -> ColumnSet
     }
 }
 
-// Whether each given rule follows from the own ones.
+// Whether a given rule follows from the parts' own ones.
+fn follows(rule: Rule, design: GivenDesign) -> bool
+    ensures { result ≡ does_fix (all_rules (given_parts design.entry)) (cols rule.left) (cols rule.right) }
+{
+    rule.right.is_subset(design_closure(design, rule.left))
+}
+
+// Whether each given rule does.
 fn given_follow(design: GivenDesign, rules: &[Rule]) -> bool
     ensures { result ≡ do_follow (all_rules (given_parts design.entry)) (deps rules.now) }
 {
-    for rule in rules {
-        let fixed = design_closure(design, rule.left);
-        if !rule.right.is_subset(fixed) {
-            return false;
-        }
-    }
-    true
+    rules.iter().all(|rule| follows(*rule, design))
 }
 
 // Whether the own rules ask no more than the given ones, each inside its part, and no less.

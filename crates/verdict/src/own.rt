@@ -17,12 +17,7 @@ pub fn made_and_checked(
     ensures told { OwnTold rules.now out.old (length tableau.old) result out.new }
     ensures rows { RowsLeft (length (parts_given rules.now out.new)) tableau.old tableau.new }
 {
-    let parts = match design_for(rules, out) {
-        Ok(parts) => parts,
-        Err(refusal) => return Err(CheckFailure::Refused(refusal)),
-    };
-    match check_design(rules, out, tableau) {
-        Ok(()) => Ok(parts),
-        Err(failure) => Err(failure),
-    }
+    let parts = design_for(rules, out)?;
+    check_design(rules, out, tableau)?;
+    Ok(parts)
 }

@@ -17,29 +17,17 @@ pub(crate) fn covers(design: GivenDesign) -> bool
     ensures { (ds : List Dep) → Decides (Condition design.entry.width.columns ds (given_parts design.entry) 1) result }
 {
     let mut missing = ColumnSet::all(design.width);
-    let mut todo = design;
-    while let Some(part) = todo.first() {
-        missing = missing.difference(part);
-        todo = todo.rest();
+    for part in design {
+        missing = missing.difference(part.set);
     }
     missing.is_subset(ColumnSet::empty())
 }
 
 // Whether none of the others lies inside the part, nor the part inside one of them.
-fn apart(part: ColumnSet, others: GivenDesign) -> bool
+fn apart(part: ColumnSet, mut others: GivenDesign) -> bool
     ensures { result ≡ every (given_parts others.entry) (is_apart (cols part)) }
 {
-    let mut todo = others;
-    while let Some(other) = todo.first() {
-        if part.is_subset(other) {
-            return false;
-        }
-        if other.is_subset(part) {
-            return false;
-        }
-        todo = todo.rest();
-    }
-    true
+    others.all(|other| !part.is_subset(other.set) && !other.set.is_subset(part))
 }
 
 // Whether no part lies inside another.
@@ -47,11 +35,10 @@ pub(crate) fn none_inside(design: GivenDesign) -> bool
     ensures { result ≡ is_none_inside (given_parts design.entry) }
 {
     let mut todo = design;
-    while let Some(part) = todo.first() {
-        if !apart(part, todo.rest()) {
+    while let Some(part) = todo.next() {
+        if !apart(part.set, todo) {
             return false;
         }
-        todo = todo.rest();
     }
     true
 }

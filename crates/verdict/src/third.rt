@@ -38,22 +38,19 @@ pub(crate) struct Branch {
 fn visit(rules: &[Rule], part: ColumnSet, set: ColumnSet) -> Found
     ensures { Finds (deps rules.now) (cols part) (cols set) [] result }
 {
-    let prime = ColumnSet::empty();
+    let none = ColumnSet::empty();
     let fixed = closure(rules, set);
     if part.is_subset(fixed) {
-        let loose = ColumnSet::empty();
         return Found {
             superkeys: 1,
-            prime,
-            loose,
+            prime: none,
+            loose: none,
         };
     }
-    let inside = fixed.intersection(part);
-    let loose = inside.difference(set);
     Found {
         superkeys: 0,
-        prime,
-        loose,
+        prime: none,
+        loose: fixed.intersection(part).difference(set),
     }
 }
 
@@ -84,21 +81,14 @@ fn walk(rules: &[Rule], branch: Branch) -> Found
     let Some(c) = left.take_first() else {
         return visit(rules, branch.part, branch.set);
     };
-    let without = walk(
-        rules,
-        Branch {
-            part: branch.part,
-            set: branch.set,
-            left,
-        },
-    );
+    let without = walk(rules, Branch { left, ..branch });
     let set = branch.set.with(c);
     let with = walk(
         rules,
         Branch {
-            part: branch.part,
             set,
             left,
+            ..branch
         },
     );
     joined(c, without, with)
@@ -121,15 +111,8 @@ fn third_form(rules: &[Rule], part: ColumnSet) -> bool
 }
 
 // Whether every part is.
-pub(crate) fn third_forms(design: GivenDesign, rules: &[Rule]) -> bool
+pub(crate) fn third_forms(mut design: GivenDesign, rules: &[Rule]) -> bool
     ensures { Decides ((p : Part) → In p (given_parts design.entry) → IsThirdForm (deps rules.now) p.cols) result }
 {
-    let mut todo = design;
-    while let Some(part) = todo.first() {
-        if !third_form(rules, part) {
-            return false;
-        }
-        todo = todo.rest();
-    }
-    true
+    design.all(|part| third_form(rules, part.set))
 }

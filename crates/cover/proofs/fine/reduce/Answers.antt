@@ -1,11 +1,8 @@
 use Rattle.std.proofs.Common.{sym}
 use Rattle.columns.specs.Sets.{cols}
 use Rattle.dependencies.specs.Rules.{deps}
-use Rattle.cover.proofs.Narrow.{narrow_start, narrow_leave, narrow_keep, narrow_end}
+use Rattle.cover.proofs.Narrow.{narrow_leave, narrow_keep, narrow_end}
 use Rattle.cover.proofs.fine.reduce.Goals as goal
-
-pub loop-c-init : goal.loop-c-init
-loop-c-init c = narrow_start (deps c.args.rules.now) (cols c.args.left) c.args.b.index
 
 pub loop-c-preserved-then-fixes : goal.loop-c-preserved-then-fixes
 loop-c-preserved-then-fixes c h =

@@ -1,5 +1,5 @@
-use Rattle.std.proofs.Common.{◌≡◌, ℕ, ◌+◌, ◌*◌, ◌≤◌, List, [], ◌∷◌, ◌++◌, length, take, sym, ap, ◌∙◌, subst, mul-le-mul, mul-le-mul_left, mul-suc, add-one, arith}
-use Rattle.std.proofs.lemmas.List.{take_more, take_all, length-take}
+use Rattle.std.proofs.Common.{◌≡◌, ℕ, ◌+◌, ◌*◌, ◌≤◌, List, [], ◌∷◌, ◌++◌, length, take, sym, ap, ◌∙◌, subst, mul-le-mul, mul-suc, add-one, arith}
+use Rattle.std.proofs.lemmas.List.{take_more}
 use Rattle.columns.specs.Members.{In}
 use Rattle.columns.specs.Sets.{cols}
 use Rattle.columns.proofs.Members.{in_at}
@@ -7,8 +7,8 @@ use Rattle.dependencies.specs.Tables.{Dep}
 use Rattle.dependencies.specs.Reads.{rules_of}
 use Rattle.dependencies.specs.Rules.{dep, deps}
 use Rattle.dependencies.specs.declared.rules.Rule.{Rule}
-use Rattle.dependencies.specs.declared.held.RuleSet.{RuleSet}
 use Rattle.dependencies.proofs.Layouts.{deps_push}
+use Rattle.dependencies.proofs.Smalls.{few_rules}
 use Rattle.cover.specs.Fine.{AllSplit}
 use Rattle.cover.specs.Queued.{queued}
 use Rattle.cover.proofs.ProperRules.{proper_at, set_short, set_short_in}
@@ -24,14 +24,10 @@ loop-rule-init c =
       omega (arith, q.1),
     )
 
-length_rules : (set : RuleSet) (rules : List Rule) → rules ≡ rules_of set → length rules ≤ set.count
-length_rules set rules e = omega (arith, ap length e, length-take set.count set.rules)
-
 pub split_rule-requires : goal.split_rule-requires
 split_rule-requires c =
     let set = c.args.set.now in
-    let n : length c.rules-rules.result.now ≤ set.count = length_rules set c.rules-rules.result.now c.rules-rules.ensures in
-    let i : c.loop-rule.rule-index ≤ 32 = omega (arith, n, set.few) in
+    let i : c.loop-rule.rule-index ≤ 32 = omega (arith, ap length c.rules-rules.ensures, few_rules set) in
     omega (arith, c.loop-rule.invariant.1, set_short c.rule-item.result.right, mul-le-mul set.width.narrow i)
 
 pub loop-rule-preserved : goal.loop-rule-preserved
@@ -54,18 +50,3 @@ loop-rule-preserved c =
           (all_turn ds (deps (take i xs)) (deps (queued c.loop-rule.queue)) (dep x) gs given c.loop-rule.invariant.0 c.split_rule.ensures.says),
       omega (arith, c.split_rule.ensures.room, c.loop-rule.invariant.1, short, m),
     )
-
-pub returns : goal.returns
-returns c =
-    let set = c.args.set.now in
-    let xs = c.rules-rules.result.now in
-    let i = c.loop-rule.rule-index in
-    let n : length xs ≤ set.count = length_rules set xs c.rules-rules.ensures in
-    let k : i ≤ set.count = omega arith in
-    let w = set.width.columns in
-    let f : take i xs ≡ xs = take_all i xs (omega arith) in
-    let gs = deps (queued c.loop-rule.queue) in
-    record {
-      says = subst (λ (v : List Rule). AllSplit (deps v) (deps v) gs) c.rules-rules.ensures (subst (λ (v : List Rule). AllSplit (deps xs) (deps v) gs) f c.loop-rule.invariant.0);
-      room = omega (arith, c.loop-rule.invariant.1, mul-le-mul_left w k);
-    }

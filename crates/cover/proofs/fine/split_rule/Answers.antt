@@ -1,4 +1,4 @@
-use Rattle.std.proofs.Common.{◌≡◌, List, [], ◌∷◌, ◌++◌, length, sym, refl, ap, ◌∙◌, subst, arith}
+use Rattle.std.proofs.Common.{◌≡◌, List, [], ◌∷◌, ◌++◌, length, sym, ap, ◌∙◌, subst, arith}
 use Rattle.columns.specs.Cols.{Cols}
 use Rattle.columns.specs.Sets.{cols}
 use Rattle.columns.proofs.SetNumbers.{cols_rising}
@@ -8,14 +8,8 @@ use Rattle.dependencies.specs.declared.rules.Rule.{Rule}
 use Rattle.dependencies.proofs.Layouts.{deps_push}
 use Rattle.cover.specs.Fine.{Splitting}
 use Rattle.cover.specs.Queued.{queued}
-use Rattle.cover.proofs.Splitting.{splitting_start, splitting_turn, splitting_end}
+use Rattle.cover.proofs.Splitting.{splitting_turn}
 use Rattle.cover.proofs.fine.split_rule.Goals as goal
-
-pub loop-b-init : goal.loop-b-init
-loop-b-init c = (splitting_start (deps c.args.rules.now) (dep c.args.rule) (deps (queued c.args.queue.now)), refl)
-
-pub push-requires : goal.push-requires
-push-requires c = omega (arith, c.requires, c.loop-b.invariant.1, ap length c.in-Some.ensures)
 
 pub loop-b-preserved : goal.loop-b-preserved
 loop-b-preserved c =
@@ -31,11 +25,3 @@ loop-b-preserved c =
           c.loop-b.invariant.0 (cols_rising x.left) c.fine_rule.ensures.left),
       omega (arith, c.push.ensures.1, c.loop-b.invariant.1, ap length c.in-Some.ensures),
     )
-
-pub returns : goal.returns
-returns c =
-    let e = c.in_default.ensures.0 in
-    record {
-      says = splitting_end (deps c.args.rules.now) (dep c.args.rule) (cols c.loop-b.todo) _ _ e c.loop-b.invariant.0;
-      room = omega (arith, ap length e, c.loop-b.invariant.1);
-    }

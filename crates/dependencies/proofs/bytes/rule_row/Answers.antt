@@ -1,35 +1,20 @@
-use Rattle.std.proofs.Common.{◌≡◌, ℕ, ◌+◌, ◌*◌, ◌<◌, List, [], ◌∷◌, ◌++◌, length, get_or, take, sym, refl, ap, ◌∙◌, arith, length-set}
-use Rattle.std.proofs.lemmas.List.{take_more, take_more_set}
-use Rattle.dependencies.specs.Bytes.{row_of_bytes}
-use Rattle.dependencies.proofs.ByteRows.{row_length, row_start, row_head, row_at, row_end}
+use Rattle.std.proofs.Common.{◌≡◌, ℕ, ◌++◌, ◌/◌, min, List, length, take, drop, ap, ◌∙◌, arith}
+use Rattle.std.specs.Prelude.{map}
+use Rattle.std.specs.Simd.{first_chunks}
+use Rattle.std.proofs.lemmas.List.{take_all, take_min, drop_min}
+use Rattle.dependencies.proofs.ByteRows.{set_of, row_pairs}
 use Rattle.dependencies.proofs.bytes.rule_row.Goals as goal
-
-pub returns-then-bytes-lt2 : goal.returns-then-bytes-lt2
-returns-then-bytes-lt2 c = c.start_of.ensures ∙ sym (row_start c.args.bytes.now c.if-bytes-lt2.true)
-
-pub loop-i-init : goal.loop-i-init
-loop-i-init c = (refl, row_head c.args.bytes.now c.if-bytes-lt2.false)
-
-pub loop-i-preserved : goal.loop-i-preserved
-loop-i-preserved c =
-    let bs = c.args.bytes.now in
-    let xs = c.loop-i.numbers in
-    let i = c.loop-i.i in
-    let v = get_or bs (2 * i) 0 + 256 * get_or bs (2 * i + 1) 0 in
-    let low : 2 * i + 1 < length bs = omega arith in
-    let fits : i + 1 < length xs = omega (arith, c.loop-i.invariant.0) in
-    let there : i + 1 < length (row_of_bytes bs) = omega (arith, row_length bs c.if-bytes-lt2.false) in (
-      length-set xs (i + 1) v ∙ c.loop-i.invariant.0,
-      take_more_set xs (i + 1) v fits
-          ∙ ap (λ (ys : List ℕ). ys ++ v ∷ []) c.loop-i.invariant.1
-          ∙ ap (λ (x : ℕ). take (i + 1) (row_of_bytes bs) ++ x ∷ []) (sym (row_at bs i c.loop-i.auto.i low))
-          ∙ sym (take_more (row_of_bytes bs) (i + 1) 0 there),
-    )
 
 pub returns : goal.returns
 returns c =
     let bs = c.args.bytes.now in
-    let e : c.loop-i.i ≡ c.min-end.result = omega arith in
-    ap (λ (k : ℕ). take (k + 1) c.loop-i.numbers) (sym e)
-    ∙ c.loop-i.invariant.1
-    ∙ row_end bs c.loop-i.i c.if-bytes-lt2.false (e ∙ c.min-end.ensures)
+    let pairs : List (List ℕ) = c.as_chunks.result.0.now in
+    let some : List (List ℕ) = take c.min-2.result pairs in
+    let two : c.min.result ≡ min 2 (length bs) = omega (arith, c.min.ensures) in
+    let many : c.min-2.result ≡ min 64 (length pairs) = omega (arith, c.min-2.ensures) in
+    let back : c.split_at.result.1.now ≡ drop 2 bs = c.split_at.ensures.back ∙ ap (λ (k : ℕ). drop k bs) two ∙ drop_min 2 bs in
+    let front : pairs ≡ first_chunks 2 (length (drop 2 bs) / 2) (drop 2 bs)
+    = c.as_chunks.ensures.front ∙ ap (λ (ys : List ℕ). first_chunks 2 (length ys / 2) ys) back in
+    c.loop-set.invariant
+    ∙ ap (λ (ps : List (List ℕ)). take 2 bs ++ map set_of ps) (take_all c.loop-set.set-index some c.loop-set-test.false ∙ ap (λ (k : ℕ). take k pairs) many ∙ take_min 64 pairs)
+    ∙ row_pairs bs pairs front

@@ -1,7 +1,9 @@
-use Rattle.std.proofs.Common.{◌≡◌, ◌+◌, length, take}
-use Rattle.dependencies.specs.Bytes.{row_of_bytes}
+use Rattle.std.proofs.Common.{◌≡◌, ◌++◌, take}
+use Rattle.std.specs.Prelude.{map}
+use Rattle.bounded.specs.Items.{items}
+use Rattle.dependencies.proofs.ByteRows.{set_of}
 use Rattle.dependencies.proofs.bytes.rule_row.Given as goal
 
--- the numbers so far are the first of the row
-abbrev pub invariant-loop-i : goal.invariant-loop-i
-invariant-loop-i l = (length l.numbers ≡ 66) × (take (l.i + 1) l.numbers ≡ take (l.i + 1) (row_of_bytes l.bytes))
+-- the first two numbers, and one for each pair of bytes so far
+abbrev pub invariant-loop-set : goal.invariant-loop-set
+invariant-loop-set l = items l.numbers ≡ take 2 l.bytes ++ map set_of (take l.set-index l.set-items)

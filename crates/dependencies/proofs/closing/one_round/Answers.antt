@@ -1,4 +1,4 @@
-use Rattle.std.proofs.Common.{◌≡◌, ℕ, ◌+◌, List, ◌∷◌, get_or, drop, sym, refl, ap, ◌∙◌, subst, add-one, drop-cons}
+use Rattle.std.proofs.Common.{◌≡◌, ℕ, ◌+◌, List, ◌∷◌, get_or, drop, sym, ap, ◌∙◌, subst, add-one, drop-cons}
 use Rattle.std.proofs.lemmas.List.{drop_all}
 use Rattle.columns.specs.Cols.{Same, Cols}
 use Rattle.columns.specs.Sets.{cols}
@@ -9,9 +9,6 @@ use Rattle.dependencies.specs.declared.rules.Rule.{Rule}
 use Rattle.dependencies.proofs.Rounds.{turn, step, step_fires, step_idle}
 use Rattle.dependencies.proofs.closing.one_round.Goals as goal
 use Rattle.dependencies.proofs.closing.one_round.Goals.{then-is_subset, else-is_subset}
-
-pub loop-rule-init : goal.loop-rule-init
-loop-rule-init c = λ d. refl
 
 pub loop-rule-preserved : goal.loop-rule-preserved
 loop-rule-preserved c =

@@ -19,12 +19,12 @@ loop-p-init c =
 pub loop-p-preserved : goal.loop-p-preserved
 loop-p-preserved c =
     let count : c.parts-p-end.result ≡ get_or c.args.register.now.design.now 0 0 = c.parts-p-end.ensures ∙ ap (λ (t : Told). if_opened t (get_or c.args.register.now.design.now 0 0) 0) c.requires in
-    so_far_next c.args.register.now.columns c.args.register.now.design.now c.args.register.now.cells.now c.loop-p.p c.part-part.result c.loop-p.columns c.intersection-shared.result c.union-columns.result (vec_items c.loop-p.rows) (vec_items c.in_ok-next.next)
+    so_far_next c.args.register.now.columns c.args.register.now.design.now c.args.register.now.cells.now c.loop-p.p c.part-part.result c.loop-p.columns c.intersection-shared.result c.union-columns.result (vec_items c.loop-p.rows) (vec_items c.in_ok-rows.rows)
     (omega arith)
     (subst (λ (t : Told). IfOpened t (PartAt c.args.register.now.columns c.args.register.now.design.now c.args.register.now.cells.now c.loop-p.p c.part-part.result) (NoPart c.part-part.result)) c.requires c.part-part.ensures)
     (λ k. c.intersection-shared.ensures k ∙ ap (λ (s : ColumnSet). has (cols c.loop-p.columns) k && has (cols s) k) c.set.ensures)
     (λ k. c.union-columns.ensures k ∙ ap (λ (s : ColumnSet). has (cols c.loop-p.columns) k || has (cols s) k) c.set-in-loop-p.ensures)
-    (c.in_ok-next.ensures ∙ ap (λ (z : List Row). join_all (cols c.intersection-shared.result) (cols c.part-part.result.owned) (held_by c.part-part.result) z) c.as_slice.ensures.value)
+    (c.in_ok-rows.ensures ∙ ap (λ (z : List Row). join_all (cols c.intersection-shared.result) (cols c.part-part.result.owned) (held_by c.part-part.result) z) c.as_slice.ensures.value)
     c.loop-p.invariant
 
 pub returns : goal.returns

@@ -1,24 +1,22 @@
-use Rattle.std.proofs.Common.{ℕ, ◌<◌, ◌≢◌, length, get_or, sym, refl, ◌∙◌, arith, get_or-set_other, get_or-set_same, below_more}
-use Rattle.std.proofs.lemmas.List.{take_all, length-set}
-use Rattle.columns.specs.Cols.{pick, has}
+use Rattle.std.proofs.Common.{◌≡◌, ℕ, ◌<◌, ◌∷◌, get_or, set, refl, sym, ap, ◌∙◌, subst, arith}
 use Rattle.columns.specs.Sets.{cols}
-use Rattle.dependencies.proofs.Drawn.{cells_drawn}
+use Rattle.columns.proofs.SetNumbers.{cols_rising}
+use Rattle.dependencies.proofs.Differing.{Half, half_start, half_turn, half_end}
 use Rattle.join.specs.Steps.{merged}
 use Rattle.join.proofs.merging.merge.Goals as goal
 
 pub loop-c-init : goal.loop-c-init
-loop-c-init c = (refl, λ k h. absurd (omega arith))
+loop-c-init c = half_start (λ i. get_or c.args.look.now i 0) (λ i. get_or c.args.row.now i 0) c.args.row.now (cols c.args.set) (omega arith) (λ i l. refl)
 
 pub loop-c-preserved : goal.loop-c-preserved
-loop-c-preserved c = (
-  simp length-set c.loop-c.invariant.0,
-  below_more _ _
-      (λ k h. let ne : k ≢ c.loop-c.c = omega arith in rw get_or-set_other (c.loop-c.invariant.1 k h))
-      (let lt : c.loop-c.c < length c.loop-c.joined = omega (arith, c.loop-c.invariant.0) in rw get_or-set_same c.merged_cell.ensures),
-)
+loop-c-preserved c =
+    let look : ℕ → ℕ = λ i. get_or c.args.look.now i 0 in
+    let small : c.index.result < 16 = omega (arith, c.index.ensures, c.in-Some.c.small) in
+    let told : c.cell.result ≡ look c.index.result = c.cell.ensures ∙ ap look (sym c.index.ensures) in
+    subst (λ (v : ℕ). Half look (λ i. get_or c.args.row.now i 0) (set c.loop-c.joined c.index.result v) (cols c.take_first.new.self) (cols c.args.set)) (sym told)
+    (half_turn look (λ i. get_or c.args.row.now i 0) c.loop-c.joined c.index.result (cols c.loop-c.rest) _ (cols c.args.set) small (cols_rising c.loop-c.rest)
+    (c.in-Some.ensures ∙ ap (λ (i : ℕ). i ∷ cols c.take_first.new.self) (sym c.index.ensures)) c.loop-c.invariant)
 
 pub returns : goal.returns
 unfolding merged
-returns c =
-    sym (take_all 16 c.loop-c.joined (omega (arith, c.loop-c.invariant.0)))
-    ∙ cells_drawn (λ (k : ℕ). pick (has (cols c.args.set) k) (get_or c.args.look.now k 0) (get_or c.args.row.now k 0)) 16 c.loop-c.joined (omega (arith, c.loop-c.invariant.0)) (λ i l. c.loop-c.invariant.1 i (omega arith))
+returns c = half_end (λ i. get_or c.args.look.now i 0) (λ i. get_or c.args.row.now i 0) c.loop-c.joined (cols c.loop-c.rest) (cols c.args.set) c.in_default.ensures.0 c.loop-c.invariant

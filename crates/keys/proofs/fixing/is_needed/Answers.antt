@@ -1,4 +1,4 @@
-use Rattle.std.proofs.Common.{◌≡◌, ℕ, Bool, true, false, not, length, sym, refl, ap, ◌∙◌, arith}
+use Rattle.std.proofs.Common.{◌≡◌, ℕ, Bool, true, false, not, sym, ap, ◌∙◌}
 use Rattle.columns.specs.Cols.{less}
 use Rattle.columns.specs.Every.{every}
 use Rattle.columns.specs.Sets.{cols}
@@ -6,9 +6,6 @@ use Rattle.dependencies.specs.Closure.{does_fix}
 use Rattle.dependencies.specs.Rules.{deps}
 use Rattle.keys.proofs.Sparing.{fixes_less, every_on, every_stops}
 use Rattle.keys.proofs.fixing.is_needed.Goals as goal
-
-pub loop-c-init : goal.loop-c-init
-loop-c-init c = refl
 
 pub loop-c-preserved : goal.loop-c-preserved
 loop-c-preserved c =
@@ -19,9 +16,6 @@ loop-c-preserved c =
     let i = c.in-Some.c.index in
     let h : f i ≡ true = ap not (sym (fixes_less ds p s (cols c.without-left.result) i c.without-left.ensures) ∙ sym c.if-fixes.ensures) in
     c.loop-c.invariant ∙ every_on (cols c.loop-c.rest) (cols c.take_first.new.self) i f c.in-Some.ensures h
-
-pub loop-c-smaller : goal.loop-c-smaller
-loop-c-smaller c = omega (arith, ap length c.in-Some.ensures)
 
 pub returns-then-fixes : goal.returns-then-fixes
 returns-then-fixes c =

@@ -1,13 +1,8 @@
-use Rattle.std.proofs.Common.{◌≡◌, ◌-◌, get_or}
-use Rattle.schema.specs.Layout.{parts_in, design_in}
+use Rattle.std.proofs.Common.{◌≡◌}
 use Rattle.parts.specs.Day.{all_hold}
-use Rattle.parts.specs.Store.{all_held, held_of}
-use Rattle.parts.proofs.Walks.{Left}
+use Rattle.parts.specs.Left.{design_of, held_parts, walk_parts, held_left}
 use Rattle.parts.proofs.asking.all_hold.Given as goal
 
 -- the parts that are left decide
-abbrev pub invariant-loop-p : goal.invariant-loop-p
-invariant-loop-p l =
-    Left l.parts.width.columns l.room (get_or l.parts.numbers.now 0 0 - l.p) l.rest l.left
-    × (all_hold (parts_in l.parts.width.columns (get_or l.parts.numbers.now 0 0 - l.p) l.rest) (all_held l.parts.width.columns l.room (get_or l.parts.numbers.now 0 0 - l.p) l.left) l.row
-    ≡ all_hold (design_in l.parts.width.columns l.parts.numbers.now) (held_of l.parts.width.columns l.parts.numbers.now l.cells) l.row)
+abbrev pub invariant-loop-part : goal.invariant-loop-part
+invariant-loop-part l = all_hold (walk_parts l.part-iterator) (held_left l.part-iterator) l.row ≡ all_hold (design_of l.parts) (held_parts l.parts l.cells) l.row

@@ -16,33 +16,33 @@ next n k p len xs ys b l w e q inv =
 pub returns-in_default : goal.returns-in_default
 returns-in_default c = no_parts c.args.width.columns c.args.design.now (nothing_lent c.args.design.now (omega (arith, tests)))
 
-pub returns-then-count-lt1 : goal.returns-then-count-lt1
-returns-then-count-lt1 c = no_parts c.args.width.columns c.args.design.now c.if-count-lt1.true
+pub returns-in_default-2 : goal.returns-in_default-2
+returns-in_default-2 c = no_parts c.args.width.columns c.args.design.now (omega arith)
 
-pub returns-then-count-gt4294967295 : goal.returns-then-count-gt4294967295
-returns-then-count-gt4294967295 c = too_many_parts c.args.width.columns c.args.design.now c.if-count-gt4294967295.true
+pub returns-in_default-3 : goal.returns-in_default-3
+returns-in_default-3 c = too_many_parts c.args.width.columns c.args.design.now (omega arith)
 
-pub loop-p-init : goal.loop-p-init
-loop-p-init c =
+pub loop-init : goal.loop-init
+loop-init c =
     let z : get_or c.args.design.now 0 0 - 0 ≡ get_or c.args.design.now 0 0 = omega arith in
     (simp (length-take, length-drop) (omega arith), ap₂ (λ (k : ℕ) (xs : List ℕ). formed c.args.width.columns k xs) z (take_rest c.args.design.now 1))
 
 pub returns-in_default-part_len : goal.returns-in_default-part_len
 returns-in_default-part_len c =
-    sym (read_parts c.args.width.columns c.args.design.now (omega arith) (omega arith) ∙ sym c.loop-p.invariant.1
-    ∙ formed_more c.args.width.columns (get_or c.args.design.now 0 0 - c.loop-p.p) c.loop-p.rest.now (omega arith) ∙ and_left _ _ c.in_default-part_len.ensures)
+    sym (read_parts c.args.width.columns c.args.design.now (omega arith) (omega arith) ∙ sym c.loop.invariant.1
+    ∙ formed_more c.args.width.columns (get_or c.args.design.now 0 0 - c.loop.counter) c.loop.rest.now (omega arith) ∙ and_left _ _ c.in_default-part_len.ensures)
 
-pub loop-p-preserved : goal.loop-p-preserved
-loop-p-preserved c = (
-  simp (length-take, length-drop) (omega (arith, c.loop-p.invariant.0)),
-  next c.args.width.columns (get_or c.args.design.now 0 0) c.loop-p.p c.in-Some.len c.loop-p.rest.now _ _ (omega arith) c.in-Some.ensures.0 c.in-Some.ensures.1 refl c.loop-p.invariant.1,
+pub loop-preserved : goal.loop-preserved
+loop-preserved c = (
+  simp (length-take, length-drop) (omega (arith, c.loop.invariant.0)),
+  next c.args.width.columns (get_or c.args.design.now 0 0) c.loop.counter c.in-Some.len c.loop.rest.now _ _ (omega arith) c.in-Some.ensures.0 c.in-Some.ensures.1 refl c.loop.invariant.1,
 )
 
 pub returns : goal.returns
 returns c =
-    sym (read_parts c.args.width.columns c.args.design.now (omega arith) (omega arith) ∙ sym c.loop-p.invariant.1
-    ∙ formed_none c.args.width.columns (get_or c.args.design.now 0 0 - c.loop-p.p) c.loop-p.rest.now (omega arith))
+    sym (read_parts c.args.width.columns c.args.design.now (omega arith) (omega arith) ∙ sym c.loop.invariant.1
+    ∙ formed_none c.args.width.columns (get_or c.args.design.now 0 0 - c.loop.counter) c.loop.rest.now (omega arith))
 
 pub offset_bounds-rest-len : goal.offset_bounds-rest-len
-offset_bounds-rest-len c = let h : c.in-Some.len ≤ length c.loop-p.rest.now = c.in-Some.ensures.2 in
-    let m : c.in-Some.len ≤ length c.args.design.now = omega (arith, c.loop-p.invariant.0) in search rules
+offset_bounds-rest-len c = let h : c.in-Some.len ≤ length c.loop.rest.now = c.in-Some.ensures.2 in
+    let m : c.in-Some.len ≤ length c.args.design.now = omega (arith, c.loop.invariant.0) in search rules

@@ -3,7 +3,7 @@ use Rattle.parts.specs.Store.{formed}
 use Rattle.parts.proofs.reading.is_readable.Given as goal
 
 -- the parts that are left decide; there are no more numbers than were lent
-abbrev pub invariant-loop-p : goal.invariant-loop-p
-invariant-loop-p l =
+abbrev pub invariant-loop : goal.invariant-loop
+invariant-loop l =
     (length l.rest ≤ length l.design)
-    × (formed l.width.columns (get_or l.design 0 0 - l.p) l.rest ≡ formed l.width.columns (get_or l.design 0 0) (drop 1 l.design))
+    × (formed l.width.columns (get_or l.design 0 0 - l.counter) l.rest ≡ formed l.width.columns (get_or l.design 0 0) (drop 1 l.design))

@@ -1,6 +1,6 @@
 use Rattle.std.proofs.Common.{◌≡◌, ℕ, ◌+◌, refl, ap, subst, arith}
 use Rattle.register.specs.Deeds.{DeedsKept}
-use Rattle.register.proofs.Daily.{kept_start, deed_long, kept_next, kept_end, deeds_stop, deeds_over}
+use Rattle.register.proofs.Daily.{kept_start, deed_long, asked_deed, kept_next, kept_end, deeds_stop, deeds_over}
 use Rattle.register.proofs.day.keep_deeds.Goals as goal
 
 pub loop-e-init : goal.loop-e-init
@@ -10,13 +10,13 @@ pub bounds-left-0 : goal.bounds-left-0
 bounds-left-0 c =
     omega (arith, deed_long c.args.parts.width.columns c.deed_count-most.result c.args.parts.numbers.now c.args.cells.now c.args.deeds.now c.args.answers.now c.loop-e.e c.loop-e.cells c.loop-e.left.now c.loop-e.answers c.loop-e.invariant (omega arith))
 
-pub returns-then-left-gt1 : goal.returns-then-left-gt1
-returns-then-left-gt1 c =
+pub returns-in_default : goal.returns-in_default
+returns-in_default c =
     kept_end c.args.parts.width.columns c.deed_count-most.result c.args.parts.numbers.now c.args.cells.now c.args.deeds.now c.args.answers.now c.loop-e.e c.loop-e.cells c.loop-e.left.now c.loop-e.answers c.loop-e.invariant
-    c.deed_count-most.ensures.is (deeds_stop c.args.parts.width.columns _ c.loop-e.left.now c.if-left-gt1.true)
+    c.deed_count-most.ensures.is (deeds_stop c.args.parts.width.columns _ c.loop-e.left.now c.in_default.ensures)
 
-pub slice_bounds-do_deed-end : goal.slice_bounds-do_deed-end
-slice_bounds-do_deed-end c =
+pub slice_bounds-left-end : goal.slice_bounds-left-end
+slice_bounds-left-end c =
     let h = c.columns.ensures in
     omega (arith, deed_long c.args.parts.width.columns c.deed_count-most.result c.args.parts.numbers.now c.args.cells.now c.args.deeds.now c.args.answers.now c.loop-e.e c.loop-e.cells c.loop-e.left.now c.loop-e.answers c.loop-e.invariant (omega arith))
 
@@ -32,9 +32,12 @@ slice_bounds-left-start c =
 
 pub loop-e-preserved : goal.loop-e-preserved
 loop-e-preserved c =
-    kept_next c.args.parts.width.columns c.deed_count-most.result c.args.parts.numbers.now c.args.cells.now c.args.deeds.now c.args.answers.now c.loop-e.e c.loop-e.cells c.loop-e.left.now c.loop-e.answers c.loop-e.invariant
+    let n = c.args.parts.width.columns in
+    let long = ap (λ (k : ℕ). k + 1) c.columns.ensures in
+    kept_next n c.deed_count-most.result c.args.parts.numbers.now c.args.cells.now c.args.deeds.now c.args.answers.now c.loop-e.e c.loop-e.cells c.loop-e.left.now c.loop-e.answers c.loop-e.invariant
     (c.columns.result + 1) c.do_deed-told.new.cells c.write_answer.new.slot _ c.do_deed-told.result (omega arith)
-    (omega (arith, c.deed_count-most.ensures.room, c.loop-e.auto.answers)) c.loop-e.auto.cells (ap (λ (k : ℕ). k + 1) c.columns.ensures) c.if-left-gt1.false
+    (omega (arith, c.deed_count-most.ensures.room, c.loop-e.auto.answers)) c.loop-e.auto.cells long c.in-Some.ensures.0
+    _ (asked_deed n _ c.loop-e.left.now c.in-Some.kind c.in-Some.ensures.1 long)
     c.do_deed-told.ensures.told c.do_deed-told.ensures.after c.write_answer.ensures refl
 
 pub returns : goal.returns

@@ -21,15 +21,15 @@ slice_bounds-left-start c = omega (arith, answered_fits c.deed_size-size.result 
 pub returns-then-left-eq0 : goal.returns-then-left-eq0
 returns-then-left-eq0 c = rest_ended c.args.width.columns (take (length c.args.bytes.now - c.args.answered * c.deed_size-size.result) (drop (c.args.answered * c.deed_size-size.result) c.args.bytes.now)) _ (left_is c.args.width.columns c.deed_size-size.result c.args.answered c.args.bytes.now c.deed_size-size.ensures) c.if-left-eq0.true
 
-pub returns-then-left-gt1 : goal.returns-then-left-gt1
-returns-then-left-gt1 c = rest_none c.args.width.columns (take (length c.args.bytes.now - c.args.answered * c.deed_size-size.result) (drop (c.args.answered * c.deed_size-size.result) c.args.bytes.now)) _ (left_is c.args.width.columns c.deed_size-size.result c.args.answered c.args.bytes.now c.deed_size-size.ensures) c.if-left-eq0.false c.if-left-gt1.true
+pub returns-in_default : goal.returns-in_default
+returns-in_default c = rest_none c.args.width.columns (take (length c.args.bytes.now - c.args.answered * c.deed_size-size.result) (drop (c.args.answered * c.deed_size-size.result) c.args.bytes.now)) _ (left_is c.args.width.columns c.deed_size-size.result c.args.answered c.args.bytes.now c.deed_size-size.ensures) c.if-left-eq0.false c.in_default.ensures
 
 pub returns-then-left-size : goal.returns-then-left-size
 returns-then-left-size c =
-    rest_whole c.args.width.columns (take (length c.args.bytes.now - c.args.answered * c.deed_size-size.result) (drop (c.args.answered * c.deed_size-size.result) c.args.bytes.now)) _ (left_is c.args.width.columns c.deed_size-size.result c.args.answered c.args.bytes.now c.deed_size-size.ensures) c.if-left-eq0.false c.if-left-gt1.false
+    rest_whole c.args.width.columns (take (length c.args.bytes.now - c.args.answered * c.deed_size-size.result) (drop (c.args.answered * c.deed_size-size.result) c.args.bytes.now)) _ (left_is c.args.width.columns c.deed_size-size.result c.args.answered c.args.bytes.now c.deed_size-size.ensures) c.if-left-eq0.false c.in-Some.ensures.0
     (omega (arith, c.deed_size-size.ensures, c.if-left-size.true))
 
 pub returns : goal.returns
 returns c =
-    rest_cut c.args.width.columns (take (length c.args.bytes.now - c.args.answered * c.deed_size-size.result) (drop (c.args.answered * c.deed_size-size.result) c.args.bytes.now)) _ (left_is c.args.width.columns c.deed_size-size.result c.args.answered c.args.bytes.now c.deed_size-size.ensures) _ refl c.if-left-eq0.false c.if-left-gt1.false
+    rest_cut c.args.width.columns (take (length c.args.bytes.now - c.args.answered * c.deed_size-size.result) (drop (c.args.answered * c.deed_size-size.result) c.args.bytes.now)) _ (left_is c.args.width.columns c.deed_size-size.result c.args.answered c.args.bytes.now c.deed_size-size.ensures) _ refl c.if-left-eq0.false c.in-Some.ensures.0
     (omega (arith, c.deed_size-size.ensures, c.if-left-size.false))

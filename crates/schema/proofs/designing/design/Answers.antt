@@ -1,5 +1,4 @@
 use Rattle.std.proofs.Common.{arith}
-use Rattle.std.proofs.lemmas.List.{length-take}
 use Rattle.cover.specs.Held.{cover_rules}
 use Rattle.dependencies.specs.Reads.{rules_of}
 use Rattle.dependencies.specs.Rules.{deps}
@@ -18,7 +17,7 @@ returns c =
     merged.ensures.0 c.add_key.ensures.0 in
     record {
       design = all.0;
-      few = omega (arith, length-take p.count p.sets, c.add_key.ensures.1, merged.ensures.1, cover.ensures.few);
+      few = omega (arith, c.add_key.ensures.1, merged.ensures.1, cover.ensures.few);
       small_rules = all.1;
       small_sets = all.2;
     }

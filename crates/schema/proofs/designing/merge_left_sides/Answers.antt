@@ -1,9 +1,10 @@
 use Rattle.std.proofs.Common.{◌≡◌, ◌+◌, List, [], ◌∷◌, ◌++◌, length, take, sym, ap, ◌∙◌, subst, arith}
-use Rattle.std.proofs.lemmas.List.{take_more, take_all, length-take}
+use Rattle.std.proofs.lemmas.List.{take_more, take_all}
 use Rattle.columns.specs.Cols.{Cols}
 use Rattle.columns.specs.Members.{In}
 use Rattle.columns.specs.declared.set.ColumnSet.{ColumnSet}
 use Rattle.columns.proofs.Members.{in_at}
+use Rattle.cover.proofs.FewRules.{few_cover}
 use Rattle.cover.specs.RuleLists.{in_deps}
 use Rattle.dependencies.specs.Tables.{Dep}
 use Rattle.dependencies.specs.Rules.{dep, deps}
@@ -18,11 +19,11 @@ pub loop-rule-init : goal.loop-rule-init
 unfolding deps sets_of
 loop-rule-init c =
     let K : Cols → Type 0 = OfLeftSide (deps c.rules-rules.result.now) in
-    (subst (λ (v : List ColumnSet). Holding K [] (sets_of v)) (sym c.none-sets.ensures.0) (holding_start K), omega (arith, c.none-sets.ensures.1))
+    (subst (λ (v : List ColumnSet). Holding K [] (sets_of v)) (sym c.none-sets.ensures) (holding_start K), omega (arith, ap length c.none-sets.ensures))
 
 pub add-requires : goal.add-requires
 add-requires c =
-    omega (arith, c.loop-rule.invariant.1, ap length c.rules-rules.ensures, length-take c.args.cover.now.count c.args.cover.now.rules, c.args.cover.now.few)
+    omega (arith, c.loop-rule.invariant.1, ap length c.rules-rules.ensures, few_cover c.args.cover.now)
 
 pub loop-rule-preserved : goal.loop-rule-preserved
 loop-rule-preserved c =

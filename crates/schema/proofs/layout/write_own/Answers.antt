@@ -1,5 +1,5 @@
 use Rattle.std.proofs.Common.{sym}
-use Rattle.schema.proofs.Written.{owned_start, owned_leave, owned_put, owned_end}
+use Rattle.schema.proofs.Written.{owned_start, owned_leave, owned_put}
 use Rattle.schema.proofs.layout.write_own.Goals as goal
 
 pub loop-rule-init : goal.loop-rule-init
@@ -15,8 +15,3 @@ loop-rule-preserved c =
     owned_put c.args.rules.now c.args.set c.args.row.now c.loop-rule.rule-index c.loop-rule.owned c.loop-rule.row c.loop-rule.invariant
     c.rule-item.result c.loop-rule-test.true c.rule-item.is c.bits.result c.bits-in-loop-rule.result c.bits.ensures.1 c.bits-in-loop-rule.ensures.1
     (sym c.if-not-lies.ensures)
-
-pub returns : goal.returns
-returns c =
-    owned_end c.args.rules.now c.args.set c.args.row.now c.loop-rule.rule-index c.loop-rule.owned c.loop-rule.row c.loop-rule.invariant
-    c.loop-rule-test.false

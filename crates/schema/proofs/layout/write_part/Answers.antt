@@ -1,9 +1,9 @@
 use Rattle.std.proofs.Common.{ℕ, ◌≤◌, List, length, ap, ◌∙◌, arith}
-use Rattle.std.proofs.lemmas.List.{length-take}
 use Rattle.columns.specs.declared.set.ColumnSet.{ColumnSet}
 use Rattle.dependencies.specs.Lent.{put_list}
 use Rattle.dependencies.specs.declared.rules.Rule.{Rule}
 use Rattle.schema.specs.Writing.{inside, own, flat, left_in}
+use Rattle.bounded.proofs.Few.{few_items}
 use Rattle.schema.proofs.Sifting.{both_sides}
 use Rattle.schema.proofs.Written.{part_put, put_mid_lem}
 use Rattle.schema.proofs.layout.write_part.Goals as goal
@@ -13,11 +13,11 @@ few rs s = omega (arith, both_sides (λ r. inside r s) rs)
 
 pub overflow_mul-result : goal.overflow_mul-result
 overflow_mul-result c =
-    omega (arith, c.write_own-owned.ensures.0, few c.rules.result.now c.args.set, ap length c.rules.ensures, length-take c.args.rest.now.count c.args.rest.now.rules, c.args.rest.now.few)
+    omega (arith, c.write_own-owned.ensures.0, few c.rules.result.now c.args.set, ap length c.rules.ensures, few_items c.args.rest.now.rules)
 
 pub overflow_add-result : goal.overflow_add-result
 overflow_add-result c =
-    omega (arith, c.write_own-owned.ensures.0, few c.rules.result.now c.args.set, ap length c.rules.ensures, length-take c.args.rest.now.count c.args.rest.now.rules, c.args.rest.now.few)
+    omega (arith, c.write_own-owned.ensures.0, few c.rules.result.now c.args.set, ap length c.rules.ensures, few_items c.args.rest.now.rules)
 
 pub returns : goal.returns
 returns c =

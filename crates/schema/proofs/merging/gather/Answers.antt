@@ -1,5 +1,5 @@
-use Rattle.std.proofs.Common.{◌≡◌, ◌+◌, List, [], ◌∷◌, ◌++◌, take, sym, ap, ◌∙◌, subst, arith}
-use Rattle.std.proofs.lemmas.List.{take_more, take_all}
+use Rattle.std.proofs.Common.{◌≡◌, ◌+◌, List, [], ◌∷◌, ◌++◌, take, sym, ap, ◌∙◌, subst}
+use Rattle.std.proofs.lemmas.List.{take_more}
 use Rattle.dependencies.specs.Tables.{Dep}
 use Rattle.columns.specs.Sets.{cols}
 use Rattle.dependencies.specs.Rules.{dep, deps}
@@ -22,8 +22,3 @@ loop-rule-preserved c =
     = ap deps (take_more xs i x c.loop-rule-test.true ∙ ap (λ (y : Rule). take i xs ++ y ∷ []) (sym c.rule-item.is)) ∙ deps_push (take i xs) x in
     subst (λ (v : List Dep). Gathered v (cols c.args.left) (cols c.join-all.result)) (sym e)
     (gathered_turn (deps (take i xs)) (cols c.args.left) (cols c.loop-rule.all) (dep x) (cols c.join-all.result) c.loop-rule.invariant c.join-all.ensures)
-
-pub returns : goal.returns
-returns c =
-    let xs = c.args.cover.now in
-    subst (λ (v : List Rule). Gathered (deps v) (cols c.args.left) (cols c.loop-rule.all)) (take_all c.loop-rule.rule-index xs (omega arith)) c.loop-rule.invariant

@@ -1,25 +1,17 @@
-use Rattle.std.proofs.Common.{◌≡◌, [], ◌∷◌, length, get_or, sym, ap, arith}
+use Rattle.std.proofs.Common.{[], ◌∷◌, get_or, sym, arith}
 use Rattle.std.proofs.lemmas.Bool.{both_ways}
 use Rattle.columns.specs.Sets.{cols}
 use Rattle.dependencies.specs.Rules.{dep}
 use Rattle.dependencies.specs.Tables.{agree}
 use Rattle.verdict.specs.Sweeps.{PairQuiet}
-use Rattle.verdict.proofs.Sweeping.{sweep_none, equating_start, equating_turn, equating_end}
+use Rattle.verdict.proofs.Sweeping.{sweep_none, equating_turn, equating_end}
 use Rattle.verdict.proofs.chase.apply.Goals as goal
 
-pub returns-then-not-agree_on : goal.returns-then-not-agree_on
-returns-then-not-agree_on c =
+pub returns-then-not-agrees : goal.returns-then-not-agrees
+returns-then-not-agrees c =
     let t = c.args.rows.now in
     let d = dep c.args.rule in
-    sweep_none (d ∷ []) (PairQuiet d t c.args.one c.args.two) t (λ e. absurd (both_ways (agree d.left (get_or t c.args.one []) (get_or t c.args.two [])) (sym c.if-not-agree_on.ensures) e))
-
-pub loop-c-init : goal.loop-c-init
-loop-c-init c = equating_start c.args.rows.now c.args.one c.args.two (cols c.args.rule.right)
-
-pub loop-c-smaller : goal.loop-c-smaller
-loop-c-smaller c =
-    let e : length (cols c.loop-c.todo) ≡ length (c.in-Some.c.index ∷ cols c.take_first.new.self) = ap length c.in-Some.ensures in
-    omega arith
+    sweep_none (d ∷ []) (PairQuiet d t c.args.one c.args.two) t (λ e. absurd (both_ways (agree d.left (get_or t c.args.one []) (get_or t c.args.two [])) (sym c.if-not-agrees.ensures) e))
 
 pub loop-c-preserved : goal.loop-c-preserved
 loop-c-preserved c =
@@ -31,4 +23,4 @@ loop-c-preserved c =
 pub returns : goal.returns
 returns c =
     equating_end (dep c.args.rule) c.args.rows.now c.loop-c.rows c.args.one c.args.two (cols c.loop-c.todo) c.loop-c.changed
-    c.in_default.ensures.0 (sym c.if-not-agree_on.ensures) c.loop-c.invariant
+    c.in_default.ensures.0 (sym c.if-not-agrees.ensures) c.loop-c.invariant

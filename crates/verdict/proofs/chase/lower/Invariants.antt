@@ -4,5 +4,5 @@ use Rattle.verdict.specs.Sweeps.{fault}
 use Rattle.verdict.proofs.chase.lower.Given as goal
 
 -- the rows behind are still to be lowered
-abbrev pub invariant-loop-i : goal.invariant-loop-i
-invariant-loop-i l = take l.i l.rows ++ mend (fault l.merge) (drop l.i l.rows) ≡ mend (fault l.merge) l.initial.rows
+abbrev pub invariant-loop-row : goal.invariant-loop-row
+invariant-loop-row l = take l.row-index l.rows ++ mend (fault l.merge) (drop l.row-index l.rows) ≡ mend (fault l.merge) l.initial.rows

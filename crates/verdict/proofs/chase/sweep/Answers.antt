@@ -6,7 +6,7 @@ use Rattle.dependencies.specs.Rules.{dep, deps}
 use Rattle.dependencies.specs.Tables.{Row, Dep}
 use Rattle.dependencies.specs.declared.rules.Rule.{Rule}
 use Rattle.verdict.specs.Sweeps.{RuleQuiet, AllQuiet}
-use Rattle.verdict.proofs.Sweeping.{sweep_none, sweep_map, sweep_then, sweep_more}
+use Rattle.verdict.proofs.Sweeping.{sweep_map, sweep_then, sweep_more}
 use Rattle.verdict.proofs.chase.sweep.Goals as goal
 
 abbrev Left : List Rule → ℕ → List Row → Type 0
@@ -32,12 +32,6 @@ turn rs i x t e q r d h =
 none : (rs : List Rule) (i : ℕ) (t : List Row) → drop i rs ≡ [] → Left rs i t → AllQuiet (deps rs) t
 unfolding deps
 none rs i t e q d h = elim (q d h) [ inl k ↦ absurd (subst (λ (v : List Rule). In d (deps v)) e k) | inr k ↦ k ]
-
-pub loop-rule-init : goal.loop-rule-init
-loop-rule-init c =
-    let t = c.args.rows.now in
-    let rs = c.args.rules.now in
-    sweep_none (deps rs) (Left rs 0 t) t (λ d h. inl h)
 
 pub loop-rule-preserved : goal.loop-rule-preserved
 loop-rule-preserved c =

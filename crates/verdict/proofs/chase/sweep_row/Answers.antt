@@ -1,17 +1,10 @@
-use Rattle.std.proofs.Common.{ℕ, ◌+◌, ◌||◌, List, [], ◌∷◌, length, sym, subst, inl, inr, arith}
+use Rattle.std.proofs.Common.{ℕ, ◌+◌, ◌||◌, List, [], ◌∷◌, sym, subst, inl, inr, arith}
 use Rattle.std.proofs.lemmas.Bool.{cases_eq}
 use Rattle.dependencies.specs.Rules.{dep}
 use Rattle.dependencies.specs.Tables.{Row}
 use Rattle.verdict.specs.Sweeps.{PairQuiet, RowQuiet}
-use Rattle.verdict.proofs.Sweeping.{sweep_none, sweep_map, sweep_then}
+use Rattle.verdict.proofs.Sweeping.{sweep_map, sweep_then}
 use Rattle.verdict.proofs.chase.sweep_row.Goals as goal
-
-pub loop-two-init : goal.loop-two-init
-loop-two-init c =
-    let t = c.args.rows.now in
-    let d = dep c.args.rule in
-    let i = c.args.one in
-    sweep_none (d ∷ []) (RowQuiet d t (i + 1) i) t (λ j a b. absurd (omega arith))
 
 pub loop-two-preserved : goal.loop-two-preserved
 loop-two-preserved c =
@@ -25,11 +18,3 @@ loop-two-preserved c =
     sweep_map (d ∷ []) (old × PairQuiet d t i k) (RowQuiet d t (k + 1) i) t v (c.loop-two.changed || c.apply-changed.result)
     (λ q j a b. elim (cases_eq j k) [ inl e ↦ subst (λ (x : ℕ). PairQuiet d t i x) (sym e) q.1 | inr e ↦ q.0 j a (omega arith) ])
     (sweep_then (d ∷ []) old (λ (w : List Row). PairQuiet d w i k) t u v c.loop-two.changed c.apply-changed.result c.loop-two.invariant c.apply-changed.ensures)
-
-pub returns : goal.returns
-returns c =
-    let t = c.args.rows.now in
-    let d = dep c.args.rule in
-    let i = c.args.one in
-    sweep_map (d ∷ []) (RowQuiet d t c.loop-two.two i) (RowQuiet d t (length t) i) t c.loop-two.rows c.loop-two.changed
-    (λ q j a b. q j a (omega (arith, c.loop-two-test.false))) c.loop-two.invariant

@@ -3,14 +3,8 @@ use Rattle.std.proofs.lemmas.Bool.{cases_eq}
 use Rattle.dependencies.specs.Rules.{dep}
 use Rattle.dependencies.specs.Tables.{Row}
 use Rattle.verdict.specs.Sweeps.{RowQuiet, RuleQuiet}
-use Rattle.verdict.proofs.Sweeping.{sweep_none, sweep_map, sweep_then}
+use Rattle.verdict.proofs.Sweeping.{sweep_map, sweep_then}
 use Rattle.verdict.proofs.chase.sweep_rule.Goals as goal
-
-pub loop-one-init : goal.loop-one-init
-loop-one-init c =
-    let t = c.args.rows.now in
-    let d = dep c.args.rule in
-    sweep_none (d ∷ []) (RuleQuiet d t 0) t (λ i a. absurd (omega arith))
 
 pub loop-one-preserved : goal.loop-one-preserved
 loop-one-preserved c =
@@ -24,10 +18,3 @@ loop-one-preserved c =
     (λ q i a. elim (cases_eq i k) [ inl e ↦ subst (λ (x : ℕ). RowQuiet d t (length t) x) (sym e) q.1 | inr e ↦ q.0 i (omega arith) ])
     (sweep_then (d ∷ []) old (λ (w : List Row). RowQuiet d w (length w) k) t u v c.loop-one.changed c.sweep_row-changed.result c.loop-one.invariant
     c.sweep_row-changed.ensures)
-
-pub returns : goal.returns
-returns c =
-    let t = c.args.rows.now in
-    let d = dep c.args.rule in
-    sweep_map (d ∷ []) (RuleQuiet d t c.loop-one.one) (RuleQuiet d t (length t)) t c.loop-one.rows c.loop-one.changed
-    (λ q i a. q i (omega (arith, c.loop-one-test.false))) c.loop-one.invariant

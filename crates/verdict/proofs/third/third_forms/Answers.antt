@@ -1,43 +1,23 @@
-use Rattle.std.proofs.Common.{List, sym, refl, subst, inl, inr}
+use Rattle.std.proofs.Common.{ℕ, ◌<◌, Bool, true, false, List, length, MatchBool, refl, subst, arith, rules}
+use Rattle.std.specs.List.{AllWithin, HoldsAt}
+use Rattle.std.proofs.lemmas.Iterator.{cases_from_all}
+use Rattle.std.proofs.lemmas.Iterator.Consumers.{YieldsList-from_first}
 use Rattle.columns.specs.Members.{In}
+use Rattle.columns.proofs.Members.{in_at, at_in}
 use Rattle.dependencies.specs.Rules.{deps}
-use Rattle.schema.specs.Design.{Part, IsThirdForm}
-use Rattle.verdict.specs.Given.{given_parts}
-use Rattle.verdict.proofs.GivenLoops.{shorter, headpart}
+use Rattle.schema.specs.Design.{Part, IsThirdForm, no_part}
+use Rattle.verdict.specs.Deciding.{Decides}
+use Rattle.verdict.specs.Given.{given_part, given_parts}
 use Rattle.verdict.proofs.third.third_forms.Goals as goal
 
-pub loop-part-init : goal.loop-part-init
-loop-part-init c = (λ p h. inl h, λ p h. h)
-
-pub returns-then-not-third_form : goal.returns-then-not-third_form
-returns-then-not-third_form c =
-    let ps = given_parts c.loop-part.todo in
-    let x = headpart c.in-Some.part ps in
-    λ f. c.if-not-third_form.ensures (f x (c.loop-part.invariant.1 x (subst (λ (v : List Part). In x v) (sym c.in-Some.ensures) (inl refl))))
-
-pub loop-part-smaller : goal.loop-part-smaller
-loop-part-smaller c =
-    let ps = given_parts c.loop-part.todo in
-    shorter ps (given_parts c.rest-todo.result) (headpart c.in-Some.part ps) c.in-Some.ensures c.rest-todo.ensures
-
-pub loop-part-preserved : goal.loop-part-preserved
-loop-part-preserved c =
-    let ds = deps c.args.rules.now in
-    let ps = given_parts c.loop-part.todo in
-    let rest = given_parts c.rest-todo.result in (
-      λ p h.
-          elim (c.loop-part.invariant.0 p h) [
-            | inl i ↦
-                elim (subst (λ (v : List Part). In p v) c.in-Some.ensures i) [
-                  | inl e ↦ inr (subst (λ (y : Part). IsThirdForm ds y.cols) e c.if-not-third_form.ensures)
-                  | inr k ↦ inl (subst (λ (v : List Part). In p v) (sym c.rest-todo.ensures) k)
-                ]
-            | inr t ↦ inr t
-          ],
-      λ p i.
-          c.loop-part.invariant.1 p (subst (λ (v : List Part). In p v) (sym c.in-Some.ensures) (inr (subst (λ (v : List Part). In p v) c.rest-todo.ensures i))),
-    )
+decided : (P : Part → Type 0) (ps : List Part) (r : Bool) → MatchBool r (AllWithin P ps 0 (length ps)) ((k : ℕ) × (k < length ps) × HoldsAt (λ p. P p → ⊥) ps k)
+    → Decides ((p : Part) → In p ps → P p) r
+decided P ps true h = λ p i. let w = at_in ps p no_part i in subst P w.2 (h w.0 no_part (omega arith) w.1)
+decided P ps false h = λ all. h.2 no_part (all _ (in_at ps h.0 no_part h.1))
 
 pub returns : goal.returns
 returns c =
-    λ p h. elim (c.loop-part.invariant.0 p h) [ inl i ↦ absurd (subst (λ (v : List Part). In p v) c.in_default.ensures i) | inr t ↦ t ]
+    let third = λ (p : Part). IsThirdForm (deps c.args.rules.now) p.cols in
+    let parts = given_parts c.args.design in
+    decided third parts c.all.result
+    (cases_from_all c.all.new.self _ _ third (λ p. third p → ⊥) c.all.ensures.ran (YieldsList-from_first given_part given_parts parts refl) (λ x q k. search rules) (λ x q k. search rules))

@@ -21,9 +21,9 @@ returns-then-is_subset c =
     = sym (c.if-is_subset.ensures ∙ all_same p p (cols c.closure-fixed.result) (closure ds x) (λ d. refl) c.closure-fixed.ensures.computed) in
     record {
       count = sym (ap (λ (b : Bool). pick b 1 0) yes·);
-      primes = λ a. nothing (cols c.empty-prime.result) a c.empty-prime.ensures;
+      primes = λ a. nothing (cols c.empty-none.result) a c.empty-none.ensures;
       loosed = λ a.
-          nothing (cols c.empty-loose.result) a c.empty-loose.ensures
+          nothing (cols c.empty-none.result) a c.empty-none.ensures
           ∙ sym (ap (λ (b : Bool). not b && ((has (closure ds x) a && has p a) && not (has x a))) yes·);
     }
 
@@ -37,9 +37,9 @@ returns c =
     = sym (c.if-is_subset.ensures ∙ all_same p p (cols c.closure-fixed.result) (closure ds x) (λ d. refl) c.closure-fixed.ensures.computed) in
     record {
       count = sym (ap (λ (b : Bool). pick b 1 0) no·);
-      primes = λ a. nothing (cols c.empty-prime.result) a c.empty-prime.ensures;
+      primes = λ a. nothing (cols c.empty-none.result) a c.empty-none.ensures;
       loosed = λ a.
-          c.difference-loose.ensures a
-          ∙ ap (λ (b : Bool). b && not (has x a)) (c.intersection-inside.ensures a ∙ ap (λ (b : Bool). b && has p a) (c.closure-fixed.ensures.computed a))
+          c.difference.ensures a
+          ∙ ap (λ (b : Bool). b && not (has x a)) (c.intersection.ensures a ∙ ap (λ (b : Bool). b && has p a) (c.closure-fixed.ensures.computed a))
           ∙ sym (ap (λ (b : Bool). not b && ((has (closure ds x) a && has p a) && not (has x a))) no·);
     }

@@ -1,4 +1,3 @@
-use Rattle.std.proofs.Common.{refl}
 use Rattle.columns.specs.Sets.{cols}
 use Rattle.columns.proofs.SetNumbers.{cols_rising}
 use Rattle.keys.proofs.Dividing.{rest_within, rest_apart, with_inside, with_apart}
@@ -11,8 +10,8 @@ invariant_of-with c =
     let l = cols b.free in
     let t = cols c.with.result in
     let m = cols c.take_first.new.self in
-    let i = c.in-Some.c.index in
-    let e = c.in-Some.ensures in
+    let i = c.in_ok-c.c.index in
+    let e = c.in_ok-c.ensures in
     record {
       inside = with_inside s l t m i e (cols b.target) c.with.ensures b.inside b.within;
       within = rest_within s l t m i e (cols b.target) b.within;
@@ -25,18 +24,6 @@ invariant_of-without c =
     let s = cols b.chosen in
     let l = cols b.free in
     let m = cols c.take_first.new.self in
-    let i = c.in-Some.c.index in
-    let e = c.in-Some.ensures in
+    let i = c.in_ok-c.c.index in
+    let e = c.in_ok-c.ensures in
     record { inside = b.inside; within = rest_within s l s m i e (cols b.target) b.within; apart = rest_apart s l s m i e b.apart }
-
-pub returns : goal.returns
-returns c =
-    record {
-      column = c.in-Some.c.index;
-      lowest = c.in-Some.ensures;
-      chosen = c.with.ensures;
-      aimed = refl;
-      stays = refl;
-      rest = refl;
-      aims = refl;
-    }

@@ -1,42 +1,32 @@
-use Rattle.std.proofs.Common.{◌≡◌, ℕ, ◌<◌, List, length, sym, ap, ◌∙◌, arith}
+use Rattle.std.proofs.Common.{sym, ap, length, ◌∙◌, arith}
 use Rattle.columns.specs.Sets.{cols}
-use Rattle.dependencies.specs.Tables.{agree}
-use Rattle.parts.specs.Store.{held_in}
-use Rattle.parts.proofs.Decoded.{held_at}
-use Rattle.parts.proofs.Turns.{count_stop, count_more, count_end, place_found, place_next, place_end}
+use Rattle.parts.specs.Left.{rows_left, held_here}
+use Rattle.parts.proofs.Turns.{place_found, place_next, place_end}
 use Rattle.parts.proofs.part_rows.PartRows.find.Goals as goal
-
-pub returns-then-times-eq0 : goal.returns-then-times-eq0
-returns-then-times-eq0 c =
-    let s : c.loop-i.i ≡ length (held_in c.args.self.width.columns c.args.self.room c.args.self.cells.now)
-    = count_stop c.args.self.width.columns c.loop-i.i c.args.self.room _ c.args.self.cells.now c.loop-i.invariant.0 (sym c.times.ensures ∙ c.if-times-eq0.true) in
-    (place_end (cols c.args.set) c.args.row.now (held_in c.args.self.width.columns c.args.self.room c.args.self.cells.now) c.loop-i.i _ (omega arith) c.loop-i.invariant.1, s)
 
 pub returns-then-agrees : goal.returns-then-agrees
 returns-then-agrees c =
-    let more = count_more c.args.self.width.columns c.loop-i.i c.args.self.room _ c.args.self.cells.now c.loop-i-test.true c.loop-i.invariant.0 (λ e. c.if-times-eq0.false (c.times.ensures ∙ e)) in
-    let l : c.loop-i.i < length (held_in c.args.self.width.columns c.args.self.room c.args.self.cells.now) = omega arith in (
-      place_found (cols c.args.set) c.args.row.now (held_in c.args.self.width.columns c.args.self.room c.args.self.cells.now) c.loop-i.i _ l
-          (ap (λ (z : List ℕ). agree (cols c.args.set) c.args.row.now z)
-          ((held_at c.args.self.width.columns c.loop-i.i c.args.self.room c.args.self.cells.now (omega (arith, l))).0 ∙ sym c.look.ensures)
-          ∙ sym c.agrees.ensures ∙ c.if-agrees.true) c.loop-i.invariant.1,
-      l,
+    let left = c.loop-held.rows in
+    let (step, here, next) = c.in-Some.ensures.steps in
+    let some = ap length step in (
+      here ∙ place_found (cols c.args.set) c.args.row.now (rows_left left) (held_here c.in-Some.held) (rows_left c.next.new.self) left.place _ step (sym c.agrees.ensures ∙ c.if-agrees.true) c.loop-held.invariant.1,
+      omega (arith, c.loop-held.invariant.0),
     )
 
-pub loop-i-preserved : goal.loop-i-preserved
-loop-i-preserved c =
-    let more = count_more c.args.self.width.columns c.loop-i.i c.args.self.room _ c.args.self.cells.now c.loop-i-test.true c.loop-i.invariant.0 (λ e. c.if-times-eq0.false (c.times.ensures ∙ e)) in
-    let l : c.loop-i.i < length (held_in c.args.self.width.columns c.args.self.room c.args.self.cells.now) = omega arith in (
-      more,
-      place_next (cols c.args.set) c.args.row.now (held_in c.args.self.width.columns c.args.self.room c.args.self.cells.now) c.loop-i.i _ l
-          (ap (λ (z : List ℕ). agree (cols c.args.set) c.args.row.now z)
-          ((held_at c.args.self.width.columns c.loop-i.i c.args.self.room c.args.self.cells.now (omega (arith, l))).0 ∙ sym c.look.ensures)
-          ∙ sym c.agrees.ensures ∙ c.if-agrees.false) c.loop-i.invariant.1,
+pub loop-held-preserved : goal.loop-held-preserved
+loop-held-preserved c =
+    let left = c.loop-held.rows in
+    let (step, here, next) = c.in-Some.ensures.steps in
+    let some = ap length step in (
+      omega (arith, c.loop-held.invariant.0),
+      place_next (cols c.args.set) c.args.row.now (rows_left left) (held_here c.in-Some.held) (rows_left c.next.new.self) left.place c.next.new.self.place _ step (sym c.agrees.ensures ∙ c.if-agrees.false) next c.loop-held.invariant.1,
     )
 
 pub returns : goal.returns
 returns c =
-    let s : c.args.self.room ≡ length (held_in c.args.self.width.columns c.args.self.room c.args.self.cells.now)
-    = count_end c.args.self.width.columns c.loop-i.i c.args.self.room _ c.args.self.cells.now (omega arith) (omega arith) c.loop-i.invariant.0 in
-    let q : c.loop-i.i ≡ c.args.self.room = omega arith in
-    (sym q ∙ place_end (cols c.args.set) c.args.row.now (held_in c.args.self.width.columns c.args.self.room c.args.self.cells.now) c.loop-i.i _ (omega arith) c.loop-i.invariant.1, s)
+    let left = c.loop-held.rows in
+    let (none, same) = c.in_default.ensures.steps in
+    let all = ap length none in (
+      same ∙ place_end (cols c.args.set) c.args.row.now (rows_left left) left.place _ none c.loop-held.invariant.1,
+      omega (arith, c.loop-held.invariant.0),
+    )

@@ -1,16 +1,16 @@
-use Rattle.std.proofs.Common.{sym, ◌∙◌, arith}
-use Rattle.parts.proofs.Turns.{count_stop, count_more, count_end}
+use Rattle.std.proofs.Common.{length, ap, ◌∙◌, inl, arith}
+use Rattle.parts.specs.Left.{rows_left, held_here, GivesRow}
+use Rattle.parts.proofs.Decoded.{held_length}
+use Rattle.parts.proofs.Passing.{all_given}
 use Rattle.parts.proofs.part_rows.PartRows.held.Goals as goal
 
-pub returns-then-times-eq0 : goal.returns-then-times-eq0
-returns-then-times-eq0 c =
-    count_stop c.args.self.width.columns c.loop-i.i c.args.self.room _ c.args.self.cells.now c.loop-i.invariant (sym c.times.ensures ∙ c.if-times-eq0.true)
-
-pub loop-i-preserved : goal.loop-i-preserved
-loop-i-preserved c =
-    count_more c.args.self.width.columns c.loop-i.i c.args.self.room _ c.args.self.cells.now c.loop-i-test.true c.loop-i.invariant
-    (λ e. c.if-times-eq0.false (c.times.ensures ∙ e))
+pub count-requires-clause-fits : goal.count-requires-clause-fits
+count-requires-clause-fits c =
+    let few = held_length c.args.self.width.columns c.args.self.room c.args.self.cells.now in
+    let all = ap length c.rows.ensures.all in
+    inl (omega arith)
 
 pub returns : goal.returns
 returns c =
-    count_end c.args.self.width.columns c.loop-i.i c.args.self.room _ c.args.self.cells.now (omega arith) (omega arith) c.loop-i.invariant
+    let (xs, drains, many) = c.count.ensures.ran in
+    many ∙ all_given held_here rows_left GivesRow (λ s a t step. step.0) (λ s t step. step.0) xs c.rows.result drains ∙ ap length c.rows.ensures.all

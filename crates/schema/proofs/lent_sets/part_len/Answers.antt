@@ -1,0 +1,48 @@
+use Rattle.std.proofs.Common.{◌≡◌, ℕ, zero, suc, ◌+◌, ◌-◌, ◌*◌, ◌^◌, ◌≤◌, true, false, Bool, leb, ltb, ◌&&◌, List, [], ◌∷◌, length, get_or, take, drop, refl, sym, ap, ◌∙◌, arith, length-take}
+use Rattle.std.proofs.lemmas.Bool.{and_from, le-leb, lt-ltb}
+use Rattle.std.proofs.lemmas.List.{take_rest, length-drop}
+use Rattle.schema.specs.Layout.{all_sets_fit}
+use Rattle.schema.proofs.lent_sets.part_len.Goals as goal
+
+-- no more than the first k numbers are looked at
+fit_front : (n k : ℕ) (xs : List ℕ) → all_sets_fit n k (take k xs) ≡ all_sets_fit n k xs
+unfolding all_sets_fit
+fit_front n zero xs = refl
+fit_front n (suc k) [] = refl
+fit_front n (suc k) (x ∷ xs) = ap (λ b. ltb x (2 ^ n) && b) (fit_front n k xs)
+
+sets_behind : (n k : ℕ) (xs : List ℕ) → 2 * k ≤ length (drop 2 xs)
+    → all_sets_fit n (length (take (2 * k) (take (length xs - 2) (drop 2 xs)))) (take (2 * k) (take (length xs - 2) (drop 2 xs))) ≡ all_sets_fit n (2 * k) (drop 2 xs)
+sets_behind n k xs l =
+    let many : length (take (2 * k) (drop 2 xs)) ≡ 2 * k = omega (arith, length-take (2 * k) (drop 2 xs)) in
+    ap (λ (v : List ℕ). all_sets_fit n (length (take (2 * k) v)) (take (2 * k) v)) (take_rest xs 2)
+    ∙ ap (λ (j : ℕ). all_sets_fit n j (take (2 * k) (drop 2 xs))) many
+    ∙ fit_front n (2 * k) (drop 2 xs)
+
+and_last : (a b : Bool) → (a && (b && false)) ≡ false
+and_last true true = refl
+and_last true false = refl
+and_last false b = refl
+
+pub returns-then-not-sets_fit : goal.returns-then-not-sets_fit
+returns-then-not-sets_fit c =
+    let n = c.args.width.columns in
+    let xs = c.args.numbers.now in
+    let k = get_or xs 1 0 in
+    let none : all_sets_fit n (2 * k) (drop 2 xs) ≡ false
+    = sym (c.if-not-sets_fit.ensures ∙ sets_behind n k xs (omega (arith, length-drop 2 xs, c.if-sets-count.false))) in
+    ap (λ (b : Bool). leb (2 + 2 * k) (length xs) && (ltb (get_or xs 0 0) (2 ^ n) && b)) none ∙ and_last _ _
+
+pub returns : goal.returns
+returns c =
+    let n = c.args.width.columns in
+    let xs = c.args.numbers.now in
+    let k = get_or xs 1 0 in
+    let fit : all_sets_fit n (2 * k) (drop 2 xs) ≡ true
+    = sym (c.if-not-sets_fit.ensures ∙ sets_behind n k xs (omega (arith, length-drop 2 xs, c.if-sets-count.false))) in
+    let whole = le-leb (2 + 2 * k) (length xs) (omega (arith, c.if-sets-count.false)) in (
+      and_from (leb (2 + 2 * k) (length xs)) (ltb (get_or xs 0 0) (2 ^ n) && all_sets_fit n (2 * k) (drop 2 xs)) whole
+          (and_from (ltb (get_or xs 0 0) (2 ^ n)) (all_sets_fit n (2 * k) (drop 2 xs)) (lt-ltb (get_or xs 0 0) (2 ^ n) c.in_ok-from_bits.ensures.0) fit),
+      refl,
+      omega (arith, c.if-sets-count.false),
+    )
