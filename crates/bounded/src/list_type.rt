@@ -10,7 +10,7 @@ pub struct Bounded<T, const N: usize> {
     ghost within: { count ≤ N },
 }
 
-// By hand, since no derive looks into a promise about fields of an open type.
+// By hand: the derive is refused where a ghost field stands beside a type parameter.
 impl<T: Copy, const N: usize> Copy for Bounded<T, N> {}
 
 impl<T: Copy, const N: usize> Clone for Bounded<T, N> {

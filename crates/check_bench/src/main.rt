@@ -8,9 +8,10 @@ use std::alloc::{AllocError, Global};
 use std::io::Read;
 use verdict::{CheckFailure, check_design};
 
-// Rules, and a design for them, as they are lent.
+// Rules, and a design for them, as they are lent, and the letter that asks for them.
 #[derive(Drop)]
 struct Question {
+    letter: u8,
     rules: Vec<u64>,
     design: Vec<u64>,
 }
@@ -50,18 +51,21 @@ const CIRCLES: [Around; 2] = [Around { shape: 1, steps: 1 }, Around { shape: 1, 
 const MIXED: [Around; 2] = [Around { shape: 3, steps: 7 }, Around { shape: 5, steps: 3 }];
 
 // A table with the design that is made for it.
-fn made(heap: Global, rules: Vec<u64>) -> Result<Question, AllocError> {
+fn made(heap: Global, letter: u8, rules: Vec<u64>) -> Result<Question, AllocError> {
     let mut design = vec![in heap; 0; 2100]?;
     let _ = design_for(rules.as_slice(), design.as_mut_slice());
-    Ok(Question { rules, design })
+    Ok(Question {
+        letter,
+        rules,
+        design,
+    })
 }
 
 // A rule from the key to each column of the block.
 fn push_block(row: &mut Vec<u64>, key: u64, block: u64) -> Result<(), AllocError> {
     for c in 0..16u64 {
         if (block >> c) & 1 == 1 {
-            row.push(key)?;
-            row.push(1 << c)?;
+            row.extend_from_slice(&[key, 1 << c])?;
         }
     }
     Ok(())
@@ -107,50 +111,41 @@ fn is_owner(set: u64) -> bool {
 
 // A design of so many parts: the five that own the rules, and others of eight columns, every 25th set of eight. None of them
 // lies inside another, and in each of them only what holds a key fixes another column.
-fn eights(heap: Global, parts: u64) -> Result<Question, AllocError> {
+fn eights(heap: Global, letter: u8, parts: usize) -> Result<Question, AllocError> {
     let mut design = Vec::new(heap);
-    design.push(parts)?;
+    design.push(parts as u64)?;
     push_owners(&mut design)?;
-    let mut left = parts.saturating_sub(5);
-    let mut seen = 0u64;
-    for set in 0..0x10000u64 {
-        if set.count_ones() != 8 || left == 0 || is_owner(set) {
-            continue;
-        }
-        seen = seen.wrapping_add(1);
-        if seen % 25 == 0 {
-            design.push(set)?;
-            design.push(0)?;
-            left -= 1;
-        }
+    let others = (0..0x10000u64)
+        .filter(|set| set.count_ones() == 8 && !is_owner(*set))
+        .skip(24)
+        .step_by(25)
+        .take(parts.saturating_sub(5));
+    for set in others {
+        design.extend_from_slice(&[set, 0])?;
     }
     Ok(Question {
+        letter,
         rules: blocks(heap)?,
         design,
     })
 }
 
-// The questions in the order of their letters.
 fn questions(heap: Global) -> Result<Vec<Question>, AllocError> {
     let mut all = Vec::new(heap);
-    all.push(made(heap, circle(heap, CIRCLES)?)?)?;
-    all.push(made(heap, circle(heap, MIXED)?)?)?;
-    all.push(eights(heap, 60)?)?;
-    all.push(eights(heap, 125)?)?;
-    all.push(eights(heap, 250)?)?;
-    all.push(eights(heap, 500)?)?;
+    all.push(made(heap, b'c', circle(heap, CIRCLES)?)?)?;
+    all.push(made(heap, b'm', circle(heap, MIXED)?)?)?;
+    all.push(eights(heap, b'1', 60)?)?;
+    all.push(eights(heap, b'2', 125)?)?;
+    all.push(eights(heap, b'3', 250)?)?;
+    all.push(eights(heap, b'4', 500)?)?;
     Ok(all)
 }
 
-fn place_of(letter: u8) -> usize {
-    match letter {
-        b'c' => 0,
-        b'm' => 1,
-        b'1' => 2,
-        b'2' => 3,
-        b'3' => 4,
-        _ => 5,
-    }
+// The question of the letter; a letter of none asks for the last.
+fn question_of(all: &[Question], letter: u8) -> Option<&Question> {
+    all.iter()
+        .find(|question| question.letter == letter)
+        .or(all.last())
 }
 
 // A verdict in the mix: 0 for a design, else the number and the place of the refusal in one.
@@ -175,7 +170,7 @@ fn run(rt: &HostRuntime) -> anyhow::Result<()> {
     let mut designs = 0u64;
     let mut mix = 0u64;
     for letter in &asked {
-        let Some(question) = all.as_slice().get(place_of(*letter)) else {
+        let Some(question) = question_of(all.as_slice(), *letter) else {
             continue;
         };
         let rules = question.rules.as_slice();

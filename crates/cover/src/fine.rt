@@ -63,11 +63,7 @@ pub(crate) fn split(set: &RuleSet) -> Queue<Rule>
     ensures says { AllSplit (deps (rules_of set.now)) (deps (rules_of set.now)) (deps (queued result)) }
     ensures room { 1024 ≤ spare result + most_rules set.now }
 {
-    let nothing = ColumnSet::empty();
-    let mut queue = Queue::new(Rule {
-        left: nothing,
-        right: nothing,
-    });
+    let mut queue = Queue::new(Rule::empty());
     let rules = set.rules();
     for rule in rules {
         split_rule(rules, *rule, &mut queue);

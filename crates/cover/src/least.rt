@@ -11,7 +11,6 @@ use crate::fine::split;
 use crate::held::Cover;
 use crate::trimming::drop_redundant;
 use bounded::Bounded;
-use columns::ColumnSet;
 use dependencies::{Rule, RuleSet};
 
 impl Cover {
@@ -32,11 +31,7 @@ pub fn least_cover(set: &RuleSet) -> Cover
 {
     let mut queue = split(set);
     drop_redundant(&mut queue);
-    let nothing = ColumnSet::empty();
-    let mut rules = Bounded::new(Rule {
-        left: nothing,
-        right: nothing,
-    });
+    let mut rules = Bounded::new(Rule::empty());
     rules.extend_from_slice(queue.items());
     Cover { rules }
 }

@@ -40,6 +40,7 @@ fn show_rest(rt: &HostRuntime, rest: DayRest) -> anyhow::Result<()> {
     }
 }
 
+// A program of its own beside register_bench, which keeps a day much like this but with the room that it is told, and only counts.
 fn keep(rt: &HostRuntime, width: Width, bytes: &[u8]) -> anyhow::Result<()> {
     let columns = (width.columns() as usize).min(16);
     let mut design = vec![in rt.alloc(); 0; DESIGN]?;

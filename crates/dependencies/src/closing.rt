@@ -1,7 +1,8 @@
 // All columns that a set of columns fixes.
+ghost use Rattle.std.specs.Prelude.{◌≡◌};
 ghost use Rattle.columns.specs.Cols.{Same};
 ghost use Rattle.columns.specs.Sets.{cols};
-ghost use Rattle.dependencies.specs.Closure.{round, Closes};
+ghost use Rattle.dependencies.specs.Closure.{round, Closes, does_fix};
 ghost use Rattle.dependencies.specs.Rules.{deps};
 
 use crate::rules::Rule;
@@ -33,4 +34,11 @@ pub fn closure(rules: &[Rule], start: ColumnSet) -> ColumnSet
         }
         all = next;
     }
+}
+
+// Whether the left columns fix all right ones.
+pub fn fixes(rules: &[Rule], left: ColumnSet, right: ColumnSet) -> bool
+    ensures { result ≡ does_fix (deps rules.now) (cols left) (cols right) }
+{
+    right.is_subset(closure(rules, left))
 }

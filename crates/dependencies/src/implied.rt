@@ -12,7 +12,7 @@ use crate::refusals::Refusal;
 use crate::rules::Rule;
 use columns::ColumnSet;
 
-// Whether a rule follows from others: two answers of one rank, so neither nothing beside something nor an error that `?` passes on.
+// Whether a rule follows from others. Both are answers: so this is no `Option`, and no error that `?` would pass on.
 #[derive(Clone, Copy, PartialEq, Eq, Debug)]
 pub enum Implication {
     // It holds in every table that obeys them.

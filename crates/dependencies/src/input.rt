@@ -70,11 +70,7 @@ fn read_sets(sets: &[u64], width: Width) -> Result<RuleSet, Refusal>
     requires { length sets.now ≤ 64 }
     ensures { ReadsSets width.columns (length sets.now / 2) sets.now result }
 {
-    let nothing = ColumnSet::empty();
-    let mut rules = Bounded::new(Rule {
-        left: nothing,
-        right: nothing,
-    });
+    let mut rules = Bounded::new(Rule::empty());
     let (pairs, _) = sets.as_chunks::<2>();
     for (i, [left, right]) in pairs.iter().enumerate() {
         let left = set_at(2 * i as u64, *left, width)?;

@@ -10,6 +10,7 @@ mod closing;
 mod held;
 mod implied;
 mod input;
+mod no_columns;
 mod refusals;
 mod rule_numbers;
 mod rules;
@@ -18,7 +19,7 @@ mod theorems;
 
 pub use bytes::{rule_row, rules_from_bytes};
 pub use cells::{agrees, cell, row_apart};
-pub use closing::closure;
+pub use closing::{closure, fixes};
 pub use held::RuleSet;
 pub use implied::{Implication, TwoRows, follows, follows_from, two_rows};
 pub use input::read_rules;

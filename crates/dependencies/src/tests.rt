@@ -78,6 +78,17 @@ fn implications(rt: HostRuntime) {
 }
 
 #[test]
+fn fixed_or_not(rt: HostRuntime) -> Result<(), Fail> {
+    let organs = read_rules(&ORGANS)?;
+    let set = |bits| ColumnSet::from_bits(bits, organs.width()).unwrap_or(ColumnSet::empty());
+    assert!(rt; fixes(organs.rules(), set(1), set(15)));
+    assert!(rt; !fixes(organs.rules(), set(15), set(16)));
+    assert!(rt; fixes(organs.rules(), set(2), set(4)));
+    assert!(rt; fixes(organs.rules(), set(0), set(0)));
+    Ok(())
+}
+
+#[test]
 fn rows_against(rt: HostRuntime) -> Result<(), Fail> {
     let width = Width::new(6).ok_or_else(|| Fail::new("six columns"))?;
     let rows = two_rows(ColumnSet::from_bits(16, width).unwrap_or(ColumnSet::empty()));
@@ -105,12 +116,7 @@ fn rows_compared(rt: HostRuntime) -> Result<(), Fail> {
 fn shown(rt: HostRuntime) -> Result<(), Fail> {
     let text = Refusal::Broken { part: 2, rule: 1 }.to_string(rt.alloc())?;
     assert!(rt; text.as_str() == "refused 9 at 129");
-    let nothing = ColumnSet::empty();
-    let rule = Rule {
-        left: nothing,
-        right: nothing,
-    }
-    .to_string(rt.alloc())?;
+    let rule = Rule::empty().to_string(rt.alloc())?;
     assert!(rt; rule.as_str() == ">");
     let short = Refusal::RuleCount(7).to_string(rt.alloc())?;
     assert!(rt; short.as_str() == "refused 2 at 7");

@@ -20,16 +20,6 @@ use Rattle.join.specs.Laid.{rows_cut, row_count, rows_in, inserts, first_refusal
 use Rattle.join.specs.Undoing.{put_all, TakenBack}
 use Rattle.join.proofs.TakenBack.{put_push, cut_push, cells_sound, same_room}
 
--- a row as it is cut out of the cells: the last may be short
-pub cut_short : (n m i : ℕ) (xs : List ℕ) → m ≡ n → length (take (length xs - i * m) (drop (i * m) xs)) ≤ m → take (length xs - i * m) (drop (i * m) xs) ≡ take n (drop (i * n) xs)
-cut_short n m i xs e l =
-    sym (take_all m (take (length xs - i * m) (drop (i * m) xs)) l) ∙ ap (λ (z : List ℕ). take m z) (take_rest xs (i * m)) ∙ ap (λ (k : ℕ). take k (drop (i * k) xs)) e
-
-pub cut_whole : (n m i : ℕ) (xs : List ℕ) → m ≡ n → take (m - 0) (take (length xs - i * m) (drop (i * m) xs)) ≡ take n (drop (i * n) xs)
-cut_whole n m i xs e =
-    let z : m - 0 ≡ m = omega arith in
-    ap₂ (λ (k : ℕ) (u : List ℕ). take k u) z (take_rest xs (i * m)) ∙ ap (λ (k : ℕ). take k (drop (i * k) xs)) e
-
 -- a fact of a register whose columns and design are these
 pub at_plan : (P : ℕ → List ℕ → Type 0) {n₁ n : ℕ} {d₁ d : List ℕ} → n₁ ≡ n → d₁ ≡ d → P n₁ d₁ → P n d
 at_plan P {n₁} {n} {d₁} {d} e f w = subst (λ (z : List ℕ). P n z) f (subst (λ (k : ℕ). P k d₁) e w)

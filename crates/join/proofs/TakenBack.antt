@@ -145,9 +145,6 @@ after_past n d g g₁ hs (Err f) w = ap (λ (z : List ℕ). drop (get_or d 0 0 *
 pub same_room : (n : ℕ) (d g g₁ : List ℕ) → length g₁ ≡ length g → room_of n d g₁ ≡ room_of n d g
 same_room n d g g₁ e = ap (λ (k : ℕ). k / (get_or d 0 0 * (n + 1))) e
 
-pub back_start : (n : ℕ) (d xs : List ℕ) (count : ℕ) (g : List ℕ) → TakenBack n d xs count count g g
-back_start n d xs count g = record { long = refl; held = λ hs o s e. e; clean = λ c. c; past = refl }
-
 module _ (n : ℕ) (d xs : List ℕ) (count k : ℕ) (g g₁ g₂ row : List ℕ) (r : Result Unit Refusal)
     (w : TakenBack n d xs count (k + 1) g g₁) (is : row ≡ take n (drop (k * n) xs)) (fits : (k + 1) * n ≤ length xs) (long : length g₂ ≡ length g₁)
     (tells : outcome r ≡ or_else (opened_told n d) (take_told n (design_in n d) (held_of n d g₁) row))

@@ -35,8 +35,7 @@ fn join_parts(heap: Global, register: &Register) -> Result<Vec<[u64; 16]>, Alloc
 pub fn join(heap: Global, register: &Register) -> Result<Vec<[u64; 16]>, JoinFailure>
     ensures { MatchResult result (λ v. (opened register.now ≡ done) × Joined (parts_in register.now) (held_in register.now) v.items) (λ e. JoinFails (opened register.now) e) }
 {
-    let Some(_) = register.width() else {
-        return Err(JoinFailure::Refused(Refusal::NotADesign(Condition::Covers)));
-    };
+    let unopened = Refusal::NotADesign(Condition::Covers);
+    register.width().ok_or(unopened)?;
     Ok(join_parts(heap, register)?)
 }

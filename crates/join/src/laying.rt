@@ -16,13 +16,7 @@ impl<'a> TableRows<'a> {
     pub(crate) fn count(self) -> usize
         ensures { result ≡ row_count self.entry.width.columns self.entry.cells.now }
     {
-        let n = self.width.columns() as usize;
-        let whole = self.cells.len() / n;
-        if self.cells.len() % n == 0 {
-            whole
-        } else {
-            whole + 1
-        }
+        self.cells.len().div_ceil(self.width.columns() as usize)
     }
 
     // Row i.
@@ -33,7 +27,7 @@ impl<'a> TableRows<'a> {
         let n = self.width.columns() as usize;
         let from = i * n;
         let left = &self.cells[from..];
-        if left.len() < n { left } else { &left[0..n] }
+        &left[..n.min(left.len())]
     }
 }
 
@@ -57,7 +51,7 @@ fn lay_rows(register: &mut Register, rows: TableRows) -> Result<usize, LayRefusa
     ensures plan { SamePlan register.old register.new }
 {
     let count = rows.count();
-    // Counted, since the place of a row that is refused is told.
+    // By its place, since that is how a table gives a row, and what is told of one that is refused.
     for i in 0..count {
         if let Err(refusal) = register.insert(rows.row(i)) {
             take_back(register, rows, i);

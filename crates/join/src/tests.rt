@@ -1,7 +1,9 @@
 // Whole tables laid and joined: the organs, a refusal in the middle, and parts that share no column.
+use crate::failure::{JoinFailure, TripFailure};
 use crate::joining::join;
 use crate::laying::lay;
 use crate::trip::lay_and_join;
+use dependencies::{Condition, Refusal};
 use register::Register;
 use std::test::Fail;
 
@@ -46,6 +48,8 @@ fn refused_in_the_middle(rt: HostRuntime) -> Result<(), Fail> {
     };
     let text = refused.to_string(rt.alloc())?;
     assert!(rt; text.as_str() == "row 2: refused 9 at 0");
+    let trip = lay_and_join(rt.alloc(), &mut register, &table);
+    assert_eq!(rt; trip.err(), Some(TripFailure::Laid(refused)));
     let Err(short) = lay(&mut register, &ORGANS[0..16]) else {
         return Err(Fail::new("a row of four cells was laid"));
     };
@@ -60,7 +64,8 @@ fn refused_in_the_middle(rt: HostRuntime) -> Result<(), Fail> {
 fn nothing_shared(rt: HostRuntime) -> Result<(), Fail> {
     let mut cells = [0; 12];
     let mut register = Register::over(&[2, 1, 0, 2, 0], &mut cells);
-    assert!(rt; join(rt.alloc(), &register).is_err());
+    let unopened = JoinFailure::Refused(Refusal::NotADesign(Condition::Covers));
+    assert_eq!(rt; join(rt.alloc(), &register).err(), Some(unopened));
     register.open(&[2, 0])?;
     assert_eq!(rt; join(rt.alloc(), &register)?.len(), 0);
     assert_eq!(rt; lay(&mut register, &[1, 5, 2, 6])?, 2);

@@ -9,8 +9,6 @@ impl fmt::Display for LayRefusal {
     ghost output = { λ e. Some (shown_lay e) };
 
     fn fmt<W: fmt::Write>(&self, f: &mut fmt::Formatter<W>) -> fmt::Result {
-        let row = self.row;
-        let refusal = self.refusal;
-        write!(f, "row {row}: {refusal}")
+        write!(f, "row {}: {}", self.row, self.refusal)
     }
 }

@@ -21,7 +21,7 @@ pub fn lay_and_join(
     ensures plan { SamePlan register.old register.new }
 {
     lay(register, table)?;
-    // The register was opened, so that only memory can be wanting. By `map_err` the proof did not close.
+    // The register was opened, so that only memory can be wanting.
     let Ok(rows) = join(heap, register) else {
         return Err(TripFailure::NoMemory);
     };

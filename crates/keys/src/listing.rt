@@ -46,9 +46,7 @@ fn fill(rules: &[Rule], target: ColumnSet, out: &mut [u64]) -> Option<usize>
 pub fn write_keys(rules: &[Rule], target: ColumnSet, out: &mut [u64]) -> Result<u64, Refusal>
     ensures { KeysWritten (deps rules.now) (cols target) out.old result out.new }
 {
-    let Some(count) = fill(rules, target, out) else {
-        return Err(Refusal::KeyRoom(out.len() as u64));
-    };
+    let count = fill(rules, target, out).ok_or(Refusal::KeyRoom(out.len() as u64))?;
     Ok(count as u64)
 }
 

@@ -4,8 +4,8 @@ ghost use Rattle.keys.specs.Walks.{Prunes};
 
 use crate::branch::Branch;
 use crate::branching::Halves;
-use crate::fixing::{fixes, is_needed};
-use dependencies::Rule;
+use crate::fixing::is_needed;
+use dependencies::{Rule, fixes};
 
 #[derive(Clone, Copy)]
 pub enum Pruned {
@@ -23,23 +23,19 @@ pub(crate) fn prune(rules: &[Rule], branch: Branch) -> Pruned
     ensures { Prunes (deps rules.now) branch result }
 {
     let right = branch.target;
-    let least = Rule {
-        left: branch.chosen,
-        right,
-    };
-    if fixes(rules, least) {
-        return if is_needed(rules, least) {
+    if fixes(rules, branch.chosen, right) {
+        return if is_needed(rules, branch.chosen, right) {
             Pruned::Leaf
         } else {
             Pruned::Dead
         };
     }
     let left = branch.chosen.union(branch.free);
-    if !fixes(rules, Rule { left, right }) {
+    if !fixes(rules, left, right) {
         return Pruned::Dead;
     }
-    let Some(halves) = branch.divide() else {
-        return Pruned::Dead;
-    };
-    Pruned::Fork(halves)
+    match branch.divide() {
+        Some(halves) => Pruned::Fork(halves),
+        None => Pruned::Dead,
+    }
 }

@@ -84,9 +84,9 @@ fn pairs(rt: HostRuntime) -> Result<(), Fail> {
     let mut lent = [0; 34];
     lent[0] = 16;
     lent[1] = 16;
-    for i in 0..8 {
+    for (i, rules) in lent[2..].chunks_exact_mut(4).enumerate() {
         let low = 1 << (2 * i);
-        lent[2 + 4 * i..6 + 4 * i].copy_from_slice(&[low, 2 * low, 2 * low, low]);
+        rules.copy_from_slice(&[low, 2 * low, 2 * low, low]);
     }
     let mut short = [0; 255];
     assert_eq!(rt;
@@ -117,9 +117,7 @@ fn eights(rt: HostRuntime) -> Result<(), Fail> {
 
 #[test]
 fn shown(rt: HostRuntime) -> Result<(), Fail> {
-    let Some(width) = Width::new(6) else {
-        return Err(Fail::new("six columns"));
-    };
+    let width = Width::new(6).ok_or_else(|| Fail::new("six columns"))?;
     let line = KeysLine {
         width,
         keys: &[33, 64, 48],

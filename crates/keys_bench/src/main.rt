@@ -28,6 +28,7 @@ fn list(lent: &[u64], row: &mut [u64]) -> u64 {
     candidate_keys(lent, 0xffff, row).unwrap_or(0)
 }
 
+// A program of its own beside schema_bench, which reads letters in the same way: one place for both would be a library for two loops.
 fn main(rt: HostRuntime) -> io::Result<()> {
     let mut asked = Vec::new(rt.alloc());
     rt.stdin().read_to_end(&mut asked)?;

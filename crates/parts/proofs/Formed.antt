@@ -1,7 +1,7 @@
 -- A lent design that can be read: what its parts' numbers are, and the design without its first part.
 use Rattle.std.proofs.Common.{◌≡◌, ℕ, zero, suc, ◌+◌, ◌-◌, ◌*◌, ◌/◌, ◌%◌, ◌^◌, ◌<◌, ◌≤◌, Bool, true, false, ◌&&◌, eqb, ltb, leb, List, [], ◌∷◌, length, get_or, drop, sym, refl, ap, ◌∙◌, ap₂, arith}
 use lib.Bits.{bit_and}
-use Rattle.std.proofs.lemmas.Nat.{and_mask, one_shl, mod-pow-add, mod_low, field_of, mod_below, pow_pos}
+use Rattle.std.proofs.lemmas.Nat.{and_mask, one_shl, mod-pow-add, mod_low, field_of, mod_below}
 use Rattle.std.proofs.lemmas.Bool.{and_parts, and_from, and_left, and_right, leb-true, le-leb, lt-leb}
 use Rattle.columns.specs.Cols.{Cols, pick, set_in}
 use Rattle.schema.specs.Layout.{all_sets_fit, is_first_whole}
@@ -24,9 +24,6 @@ pub low_mask : (bits w n : ℕ) → w ≡ n → n ≤ 16 → bit_and bits (1 * 2
 low_mask bits w n e l =
     let s : 1 * 2 ^ n % 2 ^ 64 ≡ 2 ^ n = one_shl n 64 (omega arith) in
     ap (λ (k : ℕ). bit_and bits (1 * 2 ^ k % 18446744073709551616 - 1)) e ∙ ap (λ (k : ℕ). bit_and bits (k - 1)) s ∙ and_mask bits n
-
-pub low_below : (bits n : ℕ) → bits % 2 ^ n < 2 ^ n
-low_below bits n = mod_below bits (2 ^ n) (pow_pos n)
 
 pub record WholePart (n : ℕ) (xs : List ℕ) : Type 0 where
   pub long : 2 + 2 * get_or xs 1 0 ≤ length xs

@@ -1,7 +1,7 @@
 -- A walk that gives the first of what is left at each step.
-use Rattle.std.proofs.Common.{◌≡◌, ℕ, suc, ◌+◌, ◌<◌, ◌≤◌, List, [], ◌∷◌, length, get_or, drop, Some, None, Option, sym, refl, ap, ◌∙◌, arith}
+use Rattle.std.proofs.Common.{◌≡◌, ℕ, suc, ◌+◌, ◌<◌, ◌≤◌, List, [], ◌∷◌, length, get_or, drop, MatchOption, Some, None, Option, sym, refl, ap, ◌∙◌, arith}
 use Rattle.std.specs.Iterator.{Yields, SkipsThenYields, Drains}
-use Rattle.std.proofs.lemmas.List.{get_or-drop, length-drop}
+use Rattle.std.proofs.lemmas.List.{get_or-drop, get_or_past, length-drop}
 
 none_dropped : {A : Type 0} (xs : List A) → drop 0 xs ≡ xs
 none_dropped [] = refl
@@ -30,6 +30,12 @@ module _ {S A B : Type 0} (view : A → B) (left : S → List B) (steps : S → 
     none_there s u p (xs, (here, way, step), many) =
         let e = ap length (passed xs s here way ∙ ends here u step) in
         omega (arith, length-drop (length xs) (left s))
+
+    -- what is told of the one of this place, or of none
+    pub told_there : {C : Type 0} (tell : B → C) (s u : S) (p : ℕ) (o : Option A) (none : B) (r : C) {P : A → Type 0} → SkipsThenYields steps s p o u → MatchOption o (r ≡ tell none) P
+        → ((a : A) → P a → r ≡ tell (view a)) → r ≡ tell (get_or (left s) p none)
+    told_there tell s u p None none r ran is here = is ∙ sym (ap tell (get_or_past (left s) p none (none_there s u p ran)))
+    told_there tell s u p (Some a) none r ran is here = here a is ∙ sym (ap tell (one_there s u p a none ran).1)
 
     -- all were given
     pub all_given : (xs : List A) (s : S) → Drains steps s xs → length xs ≡ length (left s)

@@ -80,14 +80,6 @@ pub record SoFar (one : Cols → Row → List Held → List Held) (n room : ℕ)
   pub changed : (q : ℕ) → q < p → Changed one n room (design_in n d) e r q (take (room * (n + 1)) (drop (q * (room * (n + 1))) xs))
   pub same : drop (p * (room * (n + 1))) xs ≡ drop (p * (room * (n + 1))) e
 
-none_dropped : (p : ℕ) (ps : List Part) → p ≡ 0 → drop p ps ≡ ps
-none_dropped zero [] z = refl
-none_dropped zero (x ∷ ps) z = refl
-none_dropped (suc p) ps z = absurd (omega arith)
-
-pub so_far_start : (one : Cols → Row → List Held → List Held) (n room : ℕ) (d e : List ℕ) (r : Row) (p : ℕ) (left : List Part) → p ≡ 0 → left ≡ design_in n d → SoFar one n room d e r p left e
-so_far_start one n room d e r p left z f = record { few = omega arith; parts = f ∙ sym (none_dropped p (design_in n d) z); changed = λ q l. absurd (omega arith); same = refl }
-
 same_head : {a b : Part} {xs ys : List Part} → a ∷ xs ≡ b ∷ ys → a ≡ b
 same_head q = cc
 

@@ -1,7 +1,10 @@
 -- A walk over the parts of a lent design beside the cells of a lent register: what is left of both, part by part.
-use Rattle.std.proofs.Common.{◌≡◌, ℕ, zero, suc, ◌+◌, ◌-◌, ◌*◌, ◌/◌, ◌<◌, ◌≤◌, Bool, true, false, ◌&&◌, List, [], ◌∷◌, get_or, take, drop, Some, None, Option, sym, ap, ◌∙◌, ap₂, mul_assoc, mul_comm, arith}
+use Rattle.std.proofs.Common.{◌≡◌, ℕ, zero, suc, ◌+◌, ◌-◌, ◌*◌, ◌/◌, ◌<◌, ◌≤◌, Bool, true, false, ◌&&◌, List, [], ◌∷◌, length, get_or, take, drop, Some, None, Option, sym, refl, ap, ◌∙◌, ap₂, mul_assoc, mul_comm, arith}
+use Rattle.std.specs.List.{list_all}
+use Rattle.std.proofs.lemmas.Iterator.{YieldsList}
+use Rattle.std.proofs.lemmas.Iterator.Consumers.{YieldsList-from_shown}
 use Rattle.std.proofs.lemmas.Nat.{div-add-mod'}
-use Rattle.std.proofs.lemmas.Bool.{and_parts, and_left}
+use Rattle.std.proofs.lemmas.Bool.{and_parts}
 use Rattle.columns.specs.Cols.{pick, set_in}
 use Rattle.dependencies.specs.Tables.{Row}
 use Rattle.dependencies.specs.Layout.{rules_in}
@@ -10,7 +13,7 @@ use Rattle.schema.specs.Layout.{parts_in}
 use Rattle.parts.specs.Day.{Held, holds, looks_of, all_hold}
 use Rattle.parts.specs.Store.{held_in, all_held, whole_part, formed}
 use Rattle.parts.specs.Answers.{full, broken_in, first_of, first_broken, first_full_part}
-use Rattle.parts.specs.Left.{own, rows_in, walk_parts, held_left, RowsGiven}
+use Rattle.parts.specs.Left.{own, rows_in, walk_parts, held_left, GivesRows, RowsGiven}
 use Rattle.parts.specs.declared.own_part.OwnPart.{OwnPart}
 use Rattle.parts.specs.declared.part_rows.PartRows.{PartRows}
 use Rattle.parts.specs.declared.parts_left.PartWalk.{PartWalk}
@@ -74,18 +77,24 @@ pub held_turn : (n room k p size : ℕ) (cells front back : List ℕ) (n₁ n₂
     → n₁ ≡ n → n₂ ≡ n → k₂ ≡ k → p₂ ≡ p + 1 → all_held n room (k - p) cells ≡ held_in n₁ room front ∷ all_held n₂ room (k₂ - p₂) back
 held_turn n room k p size cells front back n₁ n₂ k₂ p₂ l is f b a c d e = let t = cells_turn n room k p size cells l is in cc
 
+-- each part beside what it holds
+pub pairs : List Part → List (List Held) → List (Part × List Held)
+pairs [] hs = []
+pairs (p ∷ ps) [] = (p, []) ∷ pairs ps []
+pairs (p ∷ ps) (h ∷ hs) = (p, h) ∷ pairs ps hs
+
+-- every part is asked for itself
+pub pairs_hold : (r : Row) (ps : List Part) (hs : List (List Held)) → list_all (λ it. holds it.0.cols r it.1) (pairs ps hs) ≡ all_hold ps hs r
+unfolding pairs all_hold holds
+pairs_hold r [] hs = refl
+pairs_hold r (p ∷ ps) [] = refl
+pairs_hold r (p ∷ ps) (h ∷ hs) = ap (λ (z : Bool). holds p.cols r h && z) (pairs_hold r ps hs)
+
 -- what a step of the walk leaves to the parts behind
 module _ (old : PartWalk) (part : OwnPart) (rows : PartRows) (new : PartWalk) (w : RowsGiven old part rows new) (r : Row) where
-  hold_turn : all_hold (walk_parts old) (held_left old) r ≡ (holds (own part).cols r (rows_in rows) && all_hold (walk_parts new) (held_left new) r)
-  unfolding all_hold
-  hold_turn = ap₂ (λ (a : List Part) (b : List (List Held)). all_hold a b r) w.given.parts w.held
-
-  pub hold_next : (b : Bool) → all_hold (walk_parts old) (held_left old) r ≡ b → holds (own part).cols r (rows_in rows) ≡ true
-      → all_hold (walk_parts new) (held_left new) r ≡ b
-  hold_next b inv h = sym (hold_turn ∙ ap (λ (z : Bool). z && all_hold (walk_parts new) (held_left new) r) h) ∙ inv
-
-  pub hold_stop : (b : Bool) → all_hold (walk_parts old) (held_left old) r ≡ b → holds (own part).cols r (rows_in rows) ≡ false → false ≡ b
-  hold_stop b inv h = sym (sym inv ∙ hold_turn ∙ and_left _ _ h)
+  pub pairs_turn : pairs (walk_parts old) (held_left old) ≡ (own part, rows_in rows) ∷ pairs (walk_parts new) (held_left new)
+  unfolding pairs
+  pairs_turn = ap₂ pairs w.given.parts w.held
 
   full_turn : first_full_part old.parts.place old.room (walk_parts old) (held_left old) r
       ≡ pick (full rows.room (own part).cols r (rows_in rows)) (Some part.place) (first_full_part new.parts.place new.room (walk_parts new) (held_left new) r)
@@ -124,9 +133,9 @@ module _ (walk : PartWalk) (r : Row) (l : walk.parts.count ≤ walk.parts.place)
   over : walk_parts walk ≡ []
   over = none_left walk.parts.width.columns walk.parts.count walk.parts.place walk.parts.numbers.now l
 
-  pub hold_end : (b : Bool) → all_hold (walk_parts walk) (held_left walk) r ≡ b → true ≡ b
-  unfolding all_hold
-  hold_end b inv = sym (ap (λ (z : List Part). all_hold z (held_left walk) r) over) ∙ inv
+  pub pairs_end : pairs (walk_parts walk) (held_left walk) ≡ []
+  unfolding pairs
+  pairs_end = ap (λ (z : List Part). pairs z (held_left walk)) over
 
   pub full_end : (b : Option ℕ) → first_full_part walk.parts.place walk.room (walk_parts walk) (held_left walk) r ≡ b → None ≡ b
   unfolding first_full_part
@@ -139,3 +148,9 @@ module _ (walk : PartWalk) (r : Row) (l : walk.parts.count ≤ walk.parts.place)
 -- how many cells a part takes, by its room
 pub size_is : (size room q w : ℕ) → size ≡ q * w → room ≡ q → size ≡ room * w
 size_is size room q w e f = e ∙ ap (λ (z : ℕ). z * w) (sym f)
+
+-- the walk gives each part beside what it holds
+pub walks_pairs : (walk : PartWalk) → YieldsList GivesRows (λ it. (own it.0, rows_in it.1)) walk (pairs (walk_parts walk) (held_left walk))
+walks_pairs walk =
+    YieldsList-from_shown GivesRows (λ it. (own it.0, rows_in it.1)) (λ s. pairs (walk_parts s) (held_left s)) (λ s t step. ap length (pairs_end s [] step.0))
+    (λ s it t step. pairs_turn s it.0 it.1 t step []) walk

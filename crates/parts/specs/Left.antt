@@ -1,13 +1,14 @@
 -- A lent design and the lent cells as the code holds them, and what is left of both while the parts are walked.
-use Rattle.std.specs.Prelude.{◌≡◌, ℕ, ◌+◌, ◌-◌, ◌<◌, ◌≤◌, List, [], ◌∷◌, drop, slice_index, Option, Some, None, Result}
+use Rattle.std.specs.Prelude.{◌≡◌, ℕ, ◌+◌, ◌-◌, ◌*◌, ◌<◌, ◌≤◌, List, [], ◌∷◌, length, drop, slice_index, Option, Some, None, Result}
 use Rattle.columns.specs.Cols.{set_in}
+use Rattle.columns.specs.declared.table_width.Width.{Width}
 use Rattle.dependencies.specs.Layout.{rules_in}
 use Rattle.schema.specs.Design.{Part}
 use Rattle.schema.specs.Layout.{parts_in, design_in}
 use Rattle.dependencies.specs.declared.refusals.Refusal.{Refusal}
 use Rattle.parts.specs.Day.{Held}
 use Rattle.parts.specs.Answers.{NowHolds, After}
-use Rattle.parts.specs.Store.{held_in, all_held, room_of, held_of}
+use Rattle.parts.specs.Store.{held_in, all_held, room_of, held_of, Clean}
 use Rattle.parts.specs.declared.design_parts.DesignParts.{DesignParts}
 use Rattle.parts.specs.declared.own_part.OwnPart.{OwnPart}
 use Rattle.parts.specs.declared.part_rows.HeldRow.{HeldRow}
@@ -35,6 +36,14 @@ PartsHold parts was are hs = NowHolds parts.width.columns parts.numbers.now was 
 -- the cells after an answer
 abbrev pub PartsAfter : {A : Type 0} → DesignParts → (was are : List ℕ) → List (List Held) → Result A Refusal → Type 0
 PartsAfter parts was are hs told = After parts.width.columns parts.numbers.now was are hs told
+
+-- the rows of a part, with room for so many, are there whole; and after a change they hold this, and nothing but 0 stands behind
+-- what they hold if it was so before
+abbrev pub RowsWhole : Width → ℕ → List ℕ → Type 0
+RowsWhole width room rows = length rows ≡ room * (width.columns + 1)
+
+abbrev pub RowsHold : Width → ℕ → (was are : List ℕ) → List Held → Type 0
+RowsHold width room was are hs = (held_in width.columns room are ≡ hs) × (Clean width.columns room was → Clean width.columns room are)
 
 -- the columns and the rules of the part at the front
 abbrev pub own : OwnPart → Part
@@ -88,6 +97,6 @@ abbrev pub GivesRows : PartWalk → Option (OwnPart × PartRows) → PartWalk �
 GivesRows old None new = GivesPart old.parts None new.parts
 GivesRows old (Some it) new = RowsGiven old it.0 it.1 new
 
--- how many parts are left
+-- the parts that are left
 abbrev pub walk_parts : PartWalk → List Part
 walk_parts walk = parts_left walk.parts

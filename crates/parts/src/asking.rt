@@ -11,12 +11,9 @@ use crate::looks::breaks;
 pub(crate) fn all_hold(parts: DesignParts, cells: &[u64], row: &[u64]) -> bool
     ensures { result ≡ all_hold (design_of parts.entry) (held_parts parts.entry cells.now) row.now }
 {
-    for (part, rows) in parts.walk(cells) {
-        if !rows.holds(part.set(), row) {
-            return false;
-        }
-    }
-    true
+    parts
+        .walk(cells)
+        .all(|(part, rows)| rows.holds(part.set(), row))
 }
 
 // The first part that cannot count the row.
@@ -41,7 +38,7 @@ pub(crate) fn first_broken_rule(
 {
     let mut found = None;
     'parts: for (part, rows) in parts.walk(cells) {
-        // Counted, since the place of the rule is told.
+        // By its place, since that is how a part gives a rule, and what is told.
         for q in 0..part.rules() {
             let rule = part.rule(q);
             for held in rows.rows() {

@@ -1,13 +1,13 @@
 // Every part counts a row once more, or once less.
-ghost use Rattle.std.specs.Prelude.{◌≡◌, ◌+◌, ◌*◌, ℕ, List, true, false, length, None};
+ghost use Rattle.std.specs.Prelude.{◌≡◌, ℕ, List, true, false, length, None};
 ghost use Rattle.columns.specs.Cols.{Cols};
 ghost use Rattle.columns.specs.Sets.{cols};
 ghost use Rattle.dependencies.specs.Tables.{Row};
 ghost use Rattle.schema.specs.Design.{Part};
 ghost use Rattle.parts.specs.Changes.{Apart, EachMay};
 ghost use Rattle.parts.specs.Day.{Held, holds as held_before, all_hold, one_more, one_less, all_more, all_less};
-ghost use Rattle.parts.specs.Left.{design_of, part_room, held_parts, PartsHold};
-ghost use Rattle.parts.specs.Store.{held_in, Clean};
+ghost use Rattle.parts.specs.Left.{design_of, part_room, held_parts, PartsHold, RowsWhole, RowsHold};
+ghost use Rattle.parts.specs.Store.{held_in};
 ghost use Rattle.parts.specs.Answers.{full as no_more_room, first_full_part};
 ghost use Rattle.parts.specs.ChangeLaws.{more_apart, less_apart, each_has_room, each_holds};
 
@@ -29,10 +29,9 @@ pub(crate) trait Counts {
     ghost all_may: { ℕ → List Part → List (List Held) → Row → Type 0 };
 
     fn count(rows: &mut [u64], room: usize, set: ColumnSet, row: WholeRow)
-        requires whole { length rows.old ≡ room * (row.width.columns + 1) }
+        requires whole { RowsWhole row.width room rows.old }
         requires may { may room (cols set) row.cells.now (held_in row.width.columns room rows.old) }
-        ensures holds { held_in row.entry.width.columns room rows.new ≡ one (cols set) row.entry.cells.now (held_in row.entry.width.columns room rows.old) }
-        ensures clean { Clean row.entry.width.columns room rows.old → Clean row.entry.width.columns room rows.new };
+        ensures { RowsHold row.entry.width room rows.old rows.new (one (cols set) row.entry.cells.now (held_in row.entry.width.columns room rows.old)) };
 
     // The parts do so each by itself.
     ghost apart: { Apart all one };

@@ -3,7 +3,8 @@ ghost use Rattle.std.specs.Prelude.{◌≡◌, ℕ, ◌+◌, ◌*◌, ◌<◌, �
 ghost use Rattle.columns.specs.Cols.{pick, has};
 ghost use Rattle.columns.specs.Sets.{cols};
 ghost use Rattle.parts.specs.Day.{masked, holds as held_before, one_more, one_less};
-ghost use Rattle.parts.specs.Store.{held_in, Clean};
+ghost use Rattle.parts.specs.Left.{RowsWhole, RowsHold};
+ghost use Rattle.parts.specs.Store.{held_in};
 ghost use Rattle.parts.specs.Answers.{full as no_more_room};
 
 use crate::part_rows::PartRows;
@@ -50,10 +51,9 @@ fn drop_row(rest: &mut [u64], width: Width)
 
 // The part counts the row.
 pub(crate) fn count_in(rows: &mut [u64], room: usize, set: ColumnSet, row: WholeRow)
-    requires whole { length rows.old ≡ room * (row.width.columns + 1) }
+    requires whole { RowsWhole row.width room rows.old }
     requires free { no_more_room room (cols set) row.cells.now (held_in row.width.columns room rows.old) ≡ false }
-    ensures holds { held_in row.entry.width.columns room rows.new ≡ one_more (cols set) row.entry.cells.now (held_in row.entry.width.columns room rows.old) }
-    ensures clean { Clean row.entry.width.columns room rows.old → Clean row.entry.width.columns room rows.new }
+    ensures { RowsHold row.entry.width room rows.old rows.new (one_more (cols set) row.entry.cells.now (held_in row.entry.width.columns room rows.old)) }
 {
     let n = row.width.columns() as usize;
     let part = PartRows {
@@ -75,10 +75,9 @@ pub(crate) fn count_in(rows: &mut [u64], room: usize, set: ColumnSet, row: Whole
 
 // The part counts the row no more.
 pub(crate) fn count_out(rows: &mut [u64], room: usize, set: ColumnSet, row: WholeRow)
-    requires whole { length rows.old ≡ room * (row.width.columns + 1) }
+    requires whole { RowsWhole row.width room rows.old }
     requires there { held_before (cols set) row.cells.now (held_in row.width.columns room rows.old) ≡ true }
-    ensures holds { held_in row.entry.width.columns room rows.new ≡ one_less (cols set) row.entry.cells.now (held_in row.entry.width.columns room rows.old) }
-    ensures clean { Clean row.entry.width.columns room rows.old → Clean row.entry.width.columns room rows.new }
+    ensures { RowsHold row.entry.width room rows.old rows.new (one_less (cols set) row.entry.cells.now (held_in row.entry.width.columns room rows.old)) }
 {
     let n = row.width.columns() as usize;
     let part = PartRows {

@@ -89,10 +89,7 @@ impl<'a> HeldPart<'a> {
     pub fn times(self, i: usize) -> u64
         ensures { result ≡ (slice_index_or (held_by self.entry) i no_held).times }
     {
-        match self.rows.rows().nth(i) {
-            Some(held) => held.times,
-            None => 0,
-        }
+        self.rows.rows().nth(i).map_or(0, |held| held.times)
     }
 
     // The place of the first look that the row has in the part's columns, or how many looks there are.

@@ -6,7 +6,7 @@ use Rattle.schema.specs.Design.{Part}
 use Rattle.schema.specs.Layout.{design_in}
 use Rattle.parts.specs.Day.{Held}
 use Rattle.parts.specs.Store.{room_of, held_of}
-use Rattle.parts.specs.Answers.{opened_told, After}
+use Rattle.parts.specs.Answers.{outcome, opening, opened_told, After}
 use Rattle.register.specs.declared.register.Register.{Register}
 
 -- that it was opened, or the refusal of every request to one that was not
@@ -22,9 +22,16 @@ room_in r = room_of r.columns r.design.now r.cells.now
 abbrev pub held_in : Register → List (List Held)
 held_in r = held_of r.columns r.design.now r.cells.now
 
--- the same table and the same lent design
+-- the same lent design, and the same table as well
+abbrev pub SameDesign : Register → Register → Type 0
+SameDesign r s = s.design.now ≡ r.design.now
+
 abbrev pub SamePlan : Register → Register → Type 0
-SamePlan r s = (s.columns ≡ r.columns) × (s.design.now ≡ r.design.now)
+SamePlan r s = (s.columns ≡ r.columns) × SameDesign r s
+
+-- an opening for these rules tells whether they and the lent design can be read
+abbrev pub TellsOpening : {A : Type 0} → Register → List ℕ → Result A Refusal → Type 0
+TellsOpening r rules a = outcome a ≡ opening rules r.design.now
 
 -- after an answer: where it is done, the parts hold this; else no cell has changed
 abbrev pub Leaves : {A : Type 0} → Register → Register → List (List Held) → Result A Refusal → Type 0

@@ -5,9 +5,10 @@ ghost use Rattle.dependencies.specs.Told.{number as number_of, place as place_of
 ghost use Rattle.dependencies.specs.Layout.{columns_of};
 ghost use Rattle.dependencies.specs.Bytes.{row_of_bytes};
 ghost use Rattle.parts.specs.Left.{design_of, part_room, held_parts, PartsAfter};
-ghost use Rattle.parts.specs.Answers.{outcome, opening, columns_after};
+ghost use Rattle.parts.specs.Answers.{outcome, columns_after};
 ghost use Rattle.register.specs.Deeds.{deed_told, deed_held, DeedsKept, DaySays};
 ghost use Rattle.register.specs.Kinds.{asks};
+ghost use Rattle.register.specs.States.{SameDesign, TellsOpening};
 ghost use Rattle.register.specs.DayBytes.{bytes_behind_rules, ByteDaySays};
 
 use crate::day_bytes::{behind_rules, deeds_from_bytes};
@@ -33,7 +34,7 @@ fn do_deed(
     }
 }
 
-// The answer as two numbers: the refusal, 0 where the deed is done, and its place.
+// The answer as two numbers, since so the lent row has it: the refusal, 0 where the deed is done, and its place.
 fn write_answer(slot: &mut [u64], told: Result<(), Refusal>)
     requires { length slot.old ≡ 2 }
     ensures { slot.new ≡ number_of (outcome told) ∷ place_of (outcome told) ∷ [] }
@@ -66,7 +67,7 @@ fn keep_deeds(parts: DesignParts, cells: &mut [u64], deeds: &[u64], answers: &mu
     let most = deed_count(deeds.len(), answers.len(), parts.width);
     let len = parts.width.columns() as usize + 1;
     let mut left = deeds;
-    // Counted, since how many deeds were answered is what is told.
+    // By places: of what is written through `chunks_exact_mut` no proof knows more than its length.
     for e in 0..most {
         let Some(kind) = DeedKind::from_number(left[0]) else {
             return e;
@@ -88,10 +89,10 @@ impl<'d, 'c> Register<'d, 'c> {
         deeds: &[u64],
         answers: &mut [u64],
     ) -> Result<usize, Refusal>
-        ensures told { outcome result ≡ opening rules.now self.old.design.now }
+        ensures told { TellsOpening self.old rules.now result }
         ensures says { DaySays (columns_of rules.now) self.old.design.now self.old.cells.now self.new.cells.now deeds.now answers.old answers.new result }
         ensures width { self.new.columns ≡ columns_after (columns_of rules.now) self.old.columns result }
-        ensures plan { self.new.design.now ≡ self.old.design.now }
+        ensures plan { SameDesign self.old self.new }
     {
         let parts = self.begin(rules)?;
         Ok(keep_deeds(parts, self.cells, deeds, answers))
@@ -105,10 +106,10 @@ impl<'d, 'c> Register<'d, 'c> {
         deeds: &mut [u64],
         answers: &mut [u64],
     ) -> Result<usize, Refusal>
-        ensures told { outcome result ≡ opening (row_of_bytes bytes.now) self.old.design.now }
+        ensures told { TellsOpening self.old (row_of_bytes bytes.now) result }
         ensures says { ByteDaySays (columns_of (row_of_bytes bytes.now)) self.old.design.now self.old.cells.now self.new.cells.now (bytes_behind_rules bytes.now) deeds.old deeds.new answers.old answers.new result }
         ensures width { self.new.columns ≡ columns_after (columns_of (row_of_bytes bytes.now)) self.old.columns result }
-        ensures plan { self.new.design.now ≡ self.old.design.now }
+        ensures plan { SameDesign self.old self.new }
     {
         let row = rule_row(bytes);
         let width = width_to_open(row.numbers(), self.design)?;

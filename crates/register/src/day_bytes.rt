@@ -50,6 +50,7 @@ fn write_cells(bytes: &[u8], cells: &mut [u64])
     ensures { cells.new ≡ cells_of_bytes (length cells.old) bytes.now }
 {
     let mut left = bytes;
+    // The bytes go along in a slice of their own: of what is written behind an adapter such as `zip` no proof knows anything.
     for cell in cells.iter_mut() {
         *cell = first_cell(left);
         left = &left[4..];
@@ -86,7 +87,7 @@ pub fn deeds_from_bytes(bytes: &[u8], width: Width, deeds: &mut [u64]) -> usize
     let size = deed_size(width);
     let len = width.columns() as usize + 1;
     let mut left = bytes;
-    // Counted, since with `chunks_exact_mut` the proof of what the row holds in the end did not close.
+    // By places: of what is written through `chunks_exact_mut` no proof knows more than its length.
     for e in 0..count {
         write_deed(left, width, &mut deeds[e * len..e * len + len]);
         left = &left[size..];
@@ -103,14 +104,14 @@ pub fn day_rest(bytes: &[u8], width: Width, answered: usize) -> DayRest
         return DayRest::Ended;
     }
     let left = &bytes[answered * size..];
-    if left.len() == 0 {
+    let [first, cells @ ..] = left else {
         return DayRest::Ended;
-    }
-    let Some(_) = DeedKind::from_number(left[0] as u64) else {
-        return DayRest::NoDeed;
     };
+    if DeedKind::from_number(*first as u64).is_none() {
+        return DayRest::NoDeed;
+    }
     if left.len() >= size {
         return DayRest::Unanswered;
     }
-    DayRest::CutShort(((left.len() - 1) / 4) as u64)
+    DayRest::CutShort((cells.len() / 4) as u64)
 }

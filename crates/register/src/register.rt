@@ -3,8 +3,8 @@ ghost use Rattle.std.specs.Prelude.{◌≡◌, length, IfOk, MatchResult};
 ghost use Rattle.dependencies.specs.Layout.{columns_of};
 ghost use Rattle.dependencies.specs.Told.{done, told, or_else};
 ghost use Rattle.parts.specs.Day.{all_more, all_less};
-ghost use Rattle.parts.specs.Answers.{outcome, opening, put_told, take_told, asked_told, Asks, Opened};
-ghost use Rattle.register.specs.States.{opened, parts_in, room_in, held_in, SamePlan, Leaves};
+ghost use Rattle.parts.specs.Answers.{outcome, put_told, take_told, asked_told, Asks, Opened};
+ghost use Rattle.register.specs.States.{opened, parts_in, room_in, held_in, SameDesign, SamePlan, TellsOpening, Leaves};
 
 use dependencies::{Condition, Refusal};
 use parts::{DesignParts, is_present, put_in, readable_at, take_out, width_to_open};
@@ -34,10 +34,10 @@ impl<'d, 'c> Register<'d, 'c> {
 
     // Reads the rules and the design, and clears all cells whatever they held.
     pub(crate) fn begin(&mut self, rules: &[u64]) -> Result<DesignParts<'d>, Refusal>
-        ensures told { outcome result ≡ opening rules.now self.old.design.now }
+        ensures told { TellsOpening self.old rules.now result }
         ensures after { Opened (columns_of rules.now) self.old.columns self.new.columns self.old.cells.now self.new.cells.now result }
         ensures parts { IfOk result (λ p. (p.width.columns ≡ columns_of rules.now) × (p.numbers.now ≡ self.old.design.now)) }
-        ensures plan { self.new.design.now ≡ self.old.design.now }
+        ensures plan { SameDesign self.old self.new }
     {
         let width = width_to_open(rules, self.design)?;
         self.cells.fill(0);
@@ -51,9 +51,9 @@ impl<'d, 'c> Register<'d, 'c> {
     // Reads the rules and the design, and clears all cells whatever they held: no part holds anything.
     // Whether the design is one for the rules is not tested here.
     pub fn open(&mut self, rules: &[u64]) -> Result<(), Refusal>
-        ensures told { outcome result ≡ opening rules.now self.old.design.now }
+        ensures told { TellsOpening self.old rules.now result }
         ensures after { Opened (columns_of rules.now) self.old.columns self.new.columns self.old.cells.now self.new.cells.now result }
-        ensures plan { self.new.design.now ≡ self.old.design.now }
+        ensures plan { SameDesign self.old self.new }
     {
         self.begin(rules)?;
         Ok(())
@@ -63,9 +63,9 @@ impl<'d, 'c> Register<'d, 'c> {
     fn opened_parts(&self) -> Result<DesignParts<'d>, Refusal>
         ensures { MatchResult result (λ p. (opened self.now ≡ done) × (p.width.columns ≡ self.now.columns) × (p.numbers.now ≡ self.now.design.now)) (λ e. opened self.now ≡ told e) }
     {
-        let Some(width) = readable_at(self.columns, self.design) else {
-            return Err(Refusal::NotADesign(Condition::Covers));
-        };
+        let width = readable_at(self.columns, self.design).ok_or(Refusal::NotADesign(
+            Condition::Covers,
+        ))?;
         Ok(DesignParts {
             width,
             numbers: self.design,

@@ -125,9 +125,7 @@ fn day_as_bytes(rt: HostRuntime) {
 
 #[test]
 fn rest_of_a_day(rt: HostRuntime) -> Result<(), Fail> {
-    let Some(width) = Width::new(2) else {
-        return Err(Fail::new("two columns"));
-    };
+    let width = Width::new(2).ok_or_else(|| Fail::new("two columns"))?;
     let day = behind_rules(&BYTES);
     assert!(rt; day_rest(day, width, 0) == DayRest::Unanswered);
     assert!(rt; day_rest(day, width, 2) == DayRest::CutShort(1));

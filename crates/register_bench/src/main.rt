@@ -15,6 +15,7 @@ fn show_counts(rt: &HostRuntime, answers: &[u64]) -> anyhow::Result<()> {
     Ok(println!(rt; "{done} done, {refused} refused")?)
 }
 
+// A program of its own beside daybook, which keeps a day much like this: one place for both would be a library for the sake of two programs.
 fn keep(rt: &HostRuntime, width: Width, room: usize, bytes: &[u8]) -> anyhow::Result<()> {
     let columns = (width.columns() as usize).min(16);
     let mut design = vec![in rt.alloc(); 0; 2100]?;

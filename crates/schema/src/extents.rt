@@ -3,7 +3,7 @@ ghost use Rattle.std.specs.Prelude.{◌≡◌, ◌+◌, ◌*◌, ◌<◌, ◌≤
 ghost use Rattle.schema.specs.Layout.{extent_of_design};
 
 // How many numbers the part at the front of the row takes; none where the row ends before the part does.
-fn part_extent(row: &[u64]) -> Option<usize>
+pub(crate) fn part_extent(row: &[u64]) -> Option<usize>
     ensures { MatchOption result (length row.now < 2 + 2 * slice_index row.now 1) (λ k. (k ≡ 2 + 2 * slice_index row.now 1) × (k ≤ length row.now)) }
 {
     let [_, count, sets @ ..] = row else {

@@ -50,7 +50,7 @@ fn write_own(rules: &[Rule], set: ColumnSet, row: &mut [u64]) -> usize
     requires { 2 * length rules.now ≤ length row.old }
     ensures { (result ≡ length (own rules.now set)) × (row.new ≡ put_list row.old 0 (flat (own rules.now set))) }
 {
-    // Counted by hand: of what is written through `chunks_exact_mut` no proof knows more than its length.
+    // Each pair by its place: of what is written through `chunks_exact_mut` no proof knows more than its length.
     let mut owned = 0;
     for rule in rules {
         if !lies(*rule, set) {

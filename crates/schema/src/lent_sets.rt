@@ -2,6 +2,7 @@
 ghost use Rattle.std.specs.Prelude.{◌≡◌, ◌+◌, ◌*◌, ◌≤◌, true, false, length, MatchOption, slice_index};
 ghost use Rattle.schema.specs.Layout.{all_sets_fit, is_first_whole};
 
+use crate::extents::part_extent;
 use columns::{ColumnSet, Width};
 
 // Whether no set names a column that the table does not have.
@@ -16,16 +17,10 @@ pub(crate) fn sets_fit(sets: &[u64], width: Width) -> bool
 pub fn part_len(numbers: &[u64], width: Width) -> Option<usize>
     ensures { MatchOption result (is_first_whole width.columns numbers.now ≡ false) (λ k. (is_first_whole width.columns numbers.now ≡ true) × (k ≡ 2 + 2 * slice_index numbers.now 1) × (k ≤ length numbers.now)) }
 {
-    let [set, count, sets @ ..] = numbers else {
-        return None;
-    };
-    let count = *count as usize;
-    if sets.len() / 2 < count {
+    let len = part_extent(numbers)?;
+    ColumnSet::from_bits(numbers[0], width)?;
+    if !sets_fit(&numbers[2..len], width) {
         return None;
     }
-    ColumnSet::from_bits(*set, width)?;
-    if !sets_fit(&sets[..2 * count], width) {
-        return None;
-    }
-    Some(2 + 2 * count)
+    Some(len)
 }

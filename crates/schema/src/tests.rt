@@ -102,9 +102,7 @@ fn short_rows(rt: HostRuntime) {
         design_for(&[2, 1, 1, 2], &mut row),
         Err(Refusal::ShortRow(2099))
     );
-    for number in row.iter() {
-        assert_eq!(rt; *number, 7);
-    }
+    assert!(rt; row.iter().all(|number| *number == 7));
     let mut none = [];
     assert_eq!(rt;
         design_for(&[2, 2, 1, 2, 1, 4], &mut none),
@@ -137,9 +135,7 @@ fn a_plan(rt: HostRuntime) -> Result<(), Fail> {
 
 #[test]
 fn sets_of_a_table(rt: HostRuntime) -> Result<(), Fail> {
-    let Some(three) = Width::new(3) else {
-        return Err(Fail::new("three columns"));
-    };
+    let three = Width::new(3).ok_or_else(|| Fail::new("three columns"))?;
     assert!(rt; sets_fit(&[], three));
     assert!(rt; sets_fit(&[7, 0, 4], three));
     assert!(rt; !sets_fit(&[7, 8], three), "the last set has column 3");
@@ -150,9 +146,7 @@ fn sets_of_a_table(rt: HostRuntime) -> Result<(), Fail> {
 // A part of one rule before another number, one that is cut short, and one whose rule names column 3.
 #[test]
 fn parts_of_a_row(rt: HostRuntime) -> Result<(), Fail> {
-    let Some(three) = Width::new(3) else {
-        return Err(Fail::new("three columns"));
-    };
+    let three = Width::new(3).ok_or_else(|| Fail::new("three columns"))?;
     assert_eq!(rt; part_len(&[3, 1, 1, 2, 9], three), Some(4));
     assert_eq!(rt; part_len(&[1, 2, 1, 2], three), None);
     assert_eq!(rt; part_len(&[3, 1, 1, 8], three), None);

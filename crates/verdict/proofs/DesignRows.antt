@@ -108,16 +108,6 @@ pub record Reading (bytes first : List ℕ) (i at : ℕ) (left row : List ℕ) :
   pub many : suc (length (parts_given bytes)) ≡ at + length (parts_of_bytes (get_or bytes 0 0 - i) left)
   pub few : at + length left ≤ length bytes
 
-pub reading_starts : (bytes first : List ℕ) → 1 ≤ length bytes → Reading bytes first 0 1 (drop 1 bytes) first
-reading_starts bytes first h =
-    let k = get_or bytes 0 0 in
-    let e : k ≡ k - 0 = omega arith in
-    record {
-      rest = ap (λ (j : ℕ). put_list first 1 (parts_of_bytes j (drop 1 bytes))) e;
-      many = ap (λ (j : ℕ). suc (length (parts_of_bytes j (drop 1 bytes)))) e ∙ omega arith;
-      few = omega (arith, length-drop 1 bytes);
-    }
-
 -- all that the bytes stand for is written
 pub record Read (bytes row₀ row : List ℕ) (at : ℕ) : Type 0 where
   pub written : row ≡ put_list row₀ 0 (design_of_bytes bytes)

@@ -145,15 +145,6 @@ pub record Equating (t u : List Row) (i j : ℕ) (right todo : Cols) (changed : 
   pub still : changed ≡ false → (u ≡ t) × ((c : ℕ) → In c right → In c todo ⊎ (get_or (get_or t i []) c 0 ≡ get_or (get_or t j []) c 0))
   pub inside : Sub todo right
 
-pub equating_start : (t : List Row) (i j : ℕ) (right : Cols) → Equating t t i j right right false
-equating_start t i j right =
-    record {
-      steps = λ left e. (chased_none (record { left = left; right = right } ∷ []) t, e);
-      moved = λ e. absurd (true≢false (sym e));
-      still = λ e. (refl, λ c h. inl h);
-      inside = λ c h. h;
-    }
-
 module _ (t u v : List Row) (i j : ℕ) (right before todo : Cols) (c : ℕ) where
   not_moved : (a b : Bool) → before ≡ c ∷ todo → b ≡ false → Equating t u i j right before a → Merged c i j u v b → Equating t v i j right todo (a || b)
   not_moved a b is k s m =

@@ -100,6 +100,7 @@ fn sweep_rule(rows: &mut [[u64; 16]], rule: Rule) -> bool
     ensures { Sweep (dep rule ∷ []) (RuleQuiet (dep rule) rows.old (length rows.old)) rows.old rows.new result }
 {
     let mut changed = false;
+    // By places, as above.
     for one in 0..rows.len() {
         changed |= sweep_row(rows, rule, one);
     }

@@ -1,10 +1,11 @@
 // Whether somebody else's design is one: the rules are read, and then the five conditions are tested in their order.
-ghost use Rattle.std.specs.Prelude.{◌≡◌, length, Ok};
+ghost use Rattle.std.specs.Prelude.{◌≡◌, length, Ok, Err};
 ghost use Rattle.dependencies.specs.Reads.{rules_of};
 ghost use Rattle.dependencies.specs.Rules.{deps};
 ghost use Rattle.verdict.specs.Check.{Judged, Checked, Accepted, parts_given};
 ghost use Rattle.verdict.specs.Given.{given_parts};
 ghost use Rattle.verdict.specs.Sweeps.{RowsLeft};
+ghost use Rattle.dependencies.specs.declared.refusals.Refusal.TheVariants.{NotADesign};
 ghost use Rattle.verdict.specs.declared.check.CheckFailure.TheVariants.{Refused};
 
 use crate::chase::lossless;
@@ -32,6 +33,13 @@ impl From<Refusal> for CheckFailure {
     }
 }
 
+// It is no design, by a condition that it misses.
+fn missed(condition: Condition) -> Result<(), CheckFailure>
+    ensures { result ≡ Err (Refused (NotADesign condition)) }
+{
+    Err(Refusal::NotADesign(condition).into())
+}
+
 // The parts against the rules, in the order of the conditions.
 fn judge(
     rules: &RuleSet,
@@ -43,23 +51,23 @@ fn judge(
     ensures told { Judged rules.now.width.columns (deps (rules_of rules.now)) (given_parts design.entry) (length tableau.old) result }
 {
     if !covers(design) {
-        return Err(CheckFailure::Refused(Refusal::NotADesign(Condition::Covers)));
+        return missed(Condition::Covers);
     }
     if !none_inside(design) {
-        return Err(CheckFailure::Refused(Refusal::NotADesign(Condition::NoneInside)));
+        return missed(Condition::NoneInside);
     }
     let parts = design.count;
     if tableau.len() < parts {
         return Err(CheckFailure::ShortTableau(parts as u64));
     }
     if !lossless(&mut tableau[0..parts], rules, design) {
-        return Err(CheckFailure::Refused(Refusal::NotADesign(Condition::Lossless)));
+        return missed(Condition::Lossless);
     }
     if !keeps_rules(design, rules.rules()) {
-        return Err(CheckFailure::Refused(Refusal::NotADesign(Condition::RulesKept)));
+        return missed(Condition::RulesKept);
     }
     if !third_forms(design, rules.rules()) {
-        return Err(CheckFailure::Refused(Refusal::NotADesign(Condition::ThirdForm)));
+        return missed(Condition::ThirdForm);
     }
     Ok(())
 }
@@ -79,7 +87,7 @@ pub fn check_design(
     let set = read_rules(rules)?;
     let width = set.width();
     if !readable(design, width) {
-        return Err(CheckFailure::Refused(Refusal::NotADesign(Condition::Covers)));
+        return missed(Condition::Covers);
     }
     judge(&set, opened(design, width), tableau)
 }
@@ -90,15 +98,15 @@ mod tests {
 
     const ORGANS: [u64; 10] = [6, 4, 1, 10, 2, 4, 48, 1, 33, 16];
 
-    // 0 for a design, 600 and the condition for one that misses it, 1000 and the parts where the rows are too few.
-    fn verdict(rules: &[u64], design: &[u64]) -> u64 {
+    // With three rows for the tableau.
+    fn verdict(rules: &[u64], design: &[u64]) -> Result<(), CheckFailure> {
         let mut tableau = [[7; 16]; 3];
-        match check_design(rules, design, &mut tableau) {
-            Ok(()) => 0,
-            Err(CheckFailure::Refused(Refusal::NotADesign(condition))) => 600 + condition.number(),
-            Err(CheckFailure::Refused(refusal)) => refusal.number(),
-            Err(CheckFailure::ShortTableau(_)) => 1000,
-        }
+        check_design(rules, design, &mut tableau)
+    }
+
+    // Written out, so that the tests do not rest on the code that they test.
+    fn misses(condition: Condition) -> Result<(), CheckFailure> {
+        Err(CheckFailure::Refused(Refusal::NotADesign(condition)))
     }
 
     #[test]
@@ -108,35 +116,47 @@ mod tests {
                 &ORGANS,
                 &[3, 11, 2, 1, 2, 1, 8, 6, 1, 2, 4, 49, 2, 48, 1, 33, 16],
             ),
-            0
+            Ok(())
         );
         assert_eq!(rt;
             verdict(&ORGANS, &[2, 15, 3, 1, 2, 1, 8, 2, 4, 49, 2, 48, 1, 33, 16]),
-            605
+            misses(Condition::ThirdForm)
         );
-        assert_eq!(rt; verdict(&ORGANS, &[2, 11, 2, 1, 2, 1, 8, 52, 0]), 603);
+        assert_eq!(rt;
+            verdict(&ORGANS, &[2, 11, 2, 1, 2, 1, 8, 52, 0]),
+            misses(Condition::Lossless)
+        );
     }
 
     #[test]
     fn not_a_design_at_all(rt: HostRuntime) {
-        assert_eq!(rt; verdict(&ORGANS, &[]), 601);
-        assert_eq!(rt; verdict(&ORGANS, &[0]), 601);
-        assert_eq!(rt; verdict(&ORGANS, &[1, 127, 0]), 601);
-        assert_eq!(rt; verdict(&ORGANS, &[1, 63, 1, 1, 64]), 601);
-        assert_eq!(rt; verdict(&ORGANS, &[1, 31, 0]), 601);
+        assert_eq!(rt; verdict(&ORGANS, &[]), misses(Condition::Covers));
+        assert_eq!(rt; verdict(&ORGANS, &[0]), misses(Condition::Covers));
+        assert_eq!(rt; verdict(&ORGANS, &[1, 127, 0]), misses(Condition::Covers));
+        assert_eq!(rt;
+            verdict(&ORGANS, &[1, 63, 1, 1, 64]),
+            misses(Condition::Covers)
+        );
+        assert_eq!(rt; verdict(&ORGANS, &[1, 31, 0]), misses(Condition::Covers));
         assert_eq!(rt;
             verdict(
                 &ORGANS,
                 &[3, 11, 2, 1, 2, 1, 8, 6, 1, 2, 4, 49, 2, 48, 1, 33],
             ),
-            601
+            misses(Condition::Covers)
         );
     }
 
     #[test]
     fn inside_another(rt: HostRuntime) {
-        assert_eq!(rt; verdict(&ORGANS, &[2, 2, 0, 63, 0]), 602);
-        assert_eq!(rt; verdict(&ORGANS, &[2, 63, 0, 2, 0]), 602);
+        assert_eq!(rt;
+            verdict(&ORGANS, &[2, 2, 0, 63, 0]),
+            misses(Condition::NoneInside)
+        );
+        assert_eq!(rt;
+            verdict(&ORGANS, &[2, 63, 0, 2, 0]),
+            misses(Condition::NoneInside)
+        );
     }
 
     // A given rule is lost; an own rule does not follow; an own rule lies outside its part.
@@ -144,21 +164,21 @@ mod tests {
     fn rules_not_kept(rt: HostRuntime) {
         assert_eq!(rt;
             verdict(&ORGANS, &[3, 11, 2, 1, 2, 1, 8, 6, 0, 49, 2, 48, 1, 33, 16]),
-            604
+            misses(Condition::RulesKept)
         );
         assert_eq!(rt;
             verdict(
                 &ORGANS,
                 &[3, 11, 2, 1, 2, 1, 8, 6, 2, 2, 4, 4, 2, 49, 2, 48, 1, 33, 16],
             ),
-            604
+            misses(Condition::RulesKept)
         );
         assert_eq!(rt;
             verdict(
                 &ORGANS,
                 &[3, 11, 3, 1, 2, 1, 8, 2, 4, 6, 0, 49, 2, 48, 1, 33, 16],
             ),
-            604
+            misses(Condition::RulesKept)
         );
     }
 
@@ -170,14 +190,17 @@ mod tests {
                 &[4, 3, 4, 8, 2, 4, 1, 2],
                 &[3, 3, 1, 1, 2, 6, 1, 2, 4, 12, 1, 4, 8],
             ),
-            0
+            Ok(())
         );
     }
 
     // Column 1 is fixed by less than a key, and is in one.
     #[test]
     fn prime_column(rt: HostRuntime) {
-        assert_eq!(rt; verdict(&[3, 2, 3, 4, 4, 2], &[1, 7, 2, 3, 4, 4, 2]), 0);
+        assert_eq!(rt;
+            verdict(&[3, 2, 3, 4, 4, 2], &[1, 7, 2, 3, 4, 4, 2]),
+            Ok(())
+        );
     }
 
     // Column 2 is fixed by 1 through a column outside the part, which has no rule for it.
@@ -185,22 +208,31 @@ mod tests {
     fn fixed_elsewhere(rt: HostRuntime) {
         assert_eq!(rt;
             verdict(&[4, 3, 1, 15, 2, 8, 8, 4], &[2, 7, 1, 1, 6, 10, 1, 2, 8]),
-            604
+            misses(Condition::RulesKept)
         );
         assert_eq!(rt;
             verdict(
                 &[4, 3, 1, 15, 2, 8, 8, 4],
                 &[3, 7, 1, 1, 6, 10, 1, 2, 8, 12, 1, 8, 4],
             ),
-            605
+            misses(Condition::ThirdForm)
         );
     }
 
     #[test]
     fn too_few_rows(rt: HostRuntime) {
-        assert_eq!(rt; verdict(&[4, 0], &[4, 1, 0, 2, 0, 4, 0, 8, 0]), 1000);
-        assert_eq!(rt; verdict(&[17, 0], &[]), 1);
-        assert_eq!(rt; verdict(&[4, 1, 1], &[]), 2);
+        assert_eq!(rt;
+            verdict(&[4, 0], &[4, 1, 0, 2, 0, 4, 0, 8, 0]),
+            Err(CheckFailure::ShortTableau(4))
+        );
+        assert_eq!(rt;
+            verdict(&[17, 0], &[]),
+            Err(CheckFailure::Refused(Refusal::Columns))
+        );
+        assert_eq!(rt;
+            verdict(&[4, 1, 1], &[]),
+            Err(CheckFailure::Refused(Refusal::RuleCount(1)))
+        );
     }
 
     // The rows of the parts are left all 0, and the others as they were.

@@ -4,7 +4,8 @@ ghost use Rattle.schema.specs.Layout.{all_sets_fit};
 
 use columns::{ColumnSet, Width};
 
-// Rules of a part as they are lent, two sets each, which name columns of the table only: the first `count` of the numbers.
+// Rules of a part as they are lent, two sets each, which name columns of the table only: the first `count` of the numbers, which is
+// the lent row's format: the count stands before the rules, and what follows them is not theirs.
 #[derive(Clone, Copy)]
 pub(crate) struct OwnRules<'a> {
     pub(crate) width: Width,

@@ -9,8 +9,8 @@ use Rattle.keys.proofs.fixing.is_needed.Given as goal
 
 abbrev pub invariant-loop-c : goal.invariant-loop-c
 invariant-loop-c l =
-    is_all_needed (deps l.rules) (cols l.rule.right) (cols l.rule.left)
-    ≡ every (cols l.rest) (λ a. not (does_fix (deps l.rules) (less (cols l.rule.left) a) (cols l.rule.right)))
+    is_all_needed (deps l.rules) (cols l.right) (cols l.left)
+    ≡ every (cols l.rest) (λ a. not (does_fix (deps l.rules) (less (cols l.left) a) (cols l.right)))
 
 abbrev pub decreases-loop-c : goal.decreases-loop-c
 decreases-loop-c l = length (cols l.rest)

@@ -24,7 +24,7 @@ returns-then-not-fixes c =
     let b = c.args.branch in
     hopeless (deps c.args.rules.now) (cols b.target) (cols b.chosen) (cols b.free) (cols c.union-left.result) c.union-left.ensures (sym c.if-not-fixes.ensures)
 
-pub returns-in_default : goal.returns-in_default
-returns-in_default c =
+pub returns-in-None : goal.returns-in-None
+returns-in-None c =
     let b = c.args.branch in
-    none_free (deps c.args.rules.now) (cols b.target) (cols b.chosen) (cols b.free) c.in_default.ensures (sym c.if-fixes.ensures)
+    none_free (deps c.args.rules.now) (cols b.target) (cols b.chosen) (cols b.free) c.in-None.ensures (sym c.if-fixes.ensures)

@@ -1,21 +1,15 @@
-use Rattle.std.proofs.Common.{sym, ap, ◌∙◌}
-use Rattle.columns.specs.Cols.{Cols}
-use Rattle.parts.specs.Day.{holds}
-use Rattle.parts.specs.Left.{rows_in}
-use Rattle.parts.proofs.Walks.{hold_stop, hold_next, hold_end}
+use Rattle.std.proofs.Common.{List, ap₂, ◌∙◌, rules, tests}
+use Rattle.std.proofs.lemmas.Iterator.Search.{all_from_yields_List}
+use Rattle.schema.specs.Design.{Part}
+use Rattle.parts.specs.Day.{Held, holds, all_hold}
+use Rattle.parts.specs.Left.{walk_parts, held_left}
+use Rattle.parts.proofs.Walks.{pairs_hold, walks_pairs}
 use Rattle.parts.proofs.asking.all_hold.Goals as goal
 
-pub returns-then-not-holds : goal.returns-then-not-holds
-returns-then-not-holds c =
-    let row = c.args.row.now in
-    hold_stop c.loop-part.part-iterator c.in-Some.part c.in-Some.rows c.next.new.self c.in-Some.ensures.steps row _ c.loop-part.invariant
-    (ap (λ (s : Cols). holds s row (rows_in c.in-Some.rows)) (sym c.set.ensures) ∙ sym c.holds.ensures ∙ c.if-not-holds.true)
-
-pub loop-part-preserved : goal.loop-part-preserved
-loop-part-preserved c =
-    let row = c.args.row.now in
-    hold_next c.loop-part.part-iterator c.in-Some.part c.in-Some.rows c.next.new.self c.in-Some.ensures.steps row _ c.loop-part.invariant
-    (ap (λ (s : Cols). holds s row (rows_in c.in-Some.rows)) (sym c.set.ensures) ∙ sym c.holds.ensures ∙ c.if-not-holds.false)
-
 pub returns : goal.returns
-returns c = hold_end c.loop-part.part-iterator c.args.row.now c.in-None.ensures.steps.0 _ c.loop-part.invariant
+returns c =
+    let row = c.args.row.now in
+    let walk = c.walk.result in
+    all_from_yields_List (λ it. holds it.0.cols row it.1) c.all.new.self _ _ c.all.ensures.ran (walks_pairs walk) (λ x b q k. search (rules, tests))
+    ∙ pairs_hold row (walk_parts walk) (held_left walk)
+    ∙ ap₂ (λ (ps : List Part) (hs : List (List Held)). all_hold ps hs row) c.walk.ensures.parts c.walk.ensures.held

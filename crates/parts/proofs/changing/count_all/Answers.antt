@@ -21,7 +21,7 @@ loop-part-preserved g c =
       so_far_next g.C.Counts.one c.args.parts.width.columns c.room-room.result c.args.parts.numbers.now c.args.cells.now c.args.row.now c.room-room.ensures c.loop-part.part-iterator.place
           (parts_left c.loop-part.part-iterator) (own c.in-Some.part) (parts_left c.next.new.self) c.loop-part.cells (omega (arith, given.here)) c.loop-part.invariant.1 given.parts c.loop-part.auto.cells
           c.size-size.result (c.in-Some.part.place * c.size-size.result) (size_is c.size-size.result c.room-room.result (room_of c.args.parts.width.columns c.args.parts.numbers.now c.args.cells.now) (c.args.parts.width.columns + 1) c.size-size.ensures.is c.room-room.ensures)
-          (ap (λ (z : ℕ). z * c.size-size.result) given.place) c.next.new.self.place (cols c.set.result) c.count.new.rows given.next c.set.ensures c.count.auto.rows c.count.ensures.holds c.count.ensures.clean,
+          (ap (λ (z : ℕ). z * c.size-size.result) given.place) c.next.new.self.place (cols c.set.result) c.count.new.rows given.next c.set.ensures c.count.auto.rows c.count.ensures.0 c.count.ensures.1,
     )
 
 pub returns : goal.returns

@@ -30,11 +30,10 @@ returns-in-Ok c =
     let xs = c.args.rows.now in
     let i = c.in-Ok.i in
     let x : c.start-at.result + c.columns-n.result ≡ i * (n + 1) + n = ap₂ (λ (a b : ℕ). a + b) c.start-at.ensures.is c.columns-n.ensures in
-    let r = in_again n c.args.room (cols c.args.set) c.args.row.cells.now xs c.requires.whole i c.in-Ok.ensures.0 (get_or xs (i * (n + 1) + n) 0) c.in-Ok.ensures.1 refl in
-    record {
-      holds = subst (λ (z : ℕ). held_in n c.args.room (set xs z (get_or xs z 0 + 1)) ≡ one_more (cols c.args.set) c.args.row.cells.now (held_in n c.args.room xs)) (sym x) r.0;
-      clean = subst (λ (z : ℕ). Clean n c.args.room xs → Clean n c.args.room (set xs z (get_or xs z 0 + 1))) (sym x) r.1;
-    }
+    let r = in_again n c.args.room (cols c.args.set) c.args.row.cells.now xs c.requires.whole i c.in-Ok.ensures.0 (get_or xs (i * (n + 1) + n) 0) c.in-Ok.ensures.1 refl in (
+      subst (λ (z : ℕ). held_in n c.args.room (set xs z (get_or xs z 0 + 1)) ≡ one_more (cols c.args.set) c.args.row.cells.now (held_in n c.args.room xs)) (sym x) r.0,
+      subst (λ (z : ℕ). Clean n c.args.room xs → Clean n c.args.room (set xs z (get_or xs z 0 + 1))) (sym x) r.1,
+    )
 
 pub returns-in-Err : goal.returns-in-Err
 returns-in-Err c =
@@ -46,4 +45,4 @@ returns-in-Err c =
     let f = room_left n c.args.room p row xs c.in-Err.i c.in-Err.ensures.0 (omega arith) c.requires.free in
     let r = in_new_at n c.args.room p row xs c.requires.whole c.in-Err.i c.in-Err.ensures.0 c.start-at-in-Err.result c.write_row.new.rest c.start-at-in-Err.ensures.is c.args.row.whole (omega arith)
     (omega arith) c.write_row.ensures in
-    record { holds = r.0; clean = r.1 }
+    r

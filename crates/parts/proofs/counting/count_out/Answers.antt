@@ -29,7 +29,7 @@ returns-then-times-eq1 c =
     let l = held_place (cols c.args.set) c.args.row.cells.now (held_in n c.args.room xs) i c.place_of-i.ensures c.requires.there in
     let r = out_last_at n c.args.room (cols c.args.set) c.args.row.cells.now xs c.requires.whole i c.place_of-i.ensures (get_or xs (c.start-at.result + c.columns-n.result) 0) c.start-at.result c.drop_row.new.rest
     c.start-at.ensures.is l (ap (λ (z : ℕ). get_or xs z 0) x) c.if-times-eq1.true c.drop_row.ensures in
-    record { holds = r.0; clean = r.1 }
+    r
 
 pub returns-else-times-eq1 : goal.returns-else-times-eq1
 returns-else-times-eq1 c =
@@ -39,8 +39,7 @@ returns-else-times-eq1 c =
     let x : c.start-at.result + c.columns-n.result ≡ i * (n + 1) + n = ap₂ (λ (a b : ℕ). a + b) c.start-at.ensures.is c.columns-n.ensures in
     let l = held_place (cols c.args.set) c.args.row.cells.now (held_in n c.args.room xs) i c.place_of-i.ensures c.requires.there in
     let r = out_again n c.args.room (cols c.args.set) c.args.row.cells.now xs c.requires.whole i c.place_of-i.ensures (get_or xs (i * (n + 1) + n) 0) l refl
-    (λ e. c.if-times-eq1.false (ap (λ (z : ℕ). get_or xs z 0) x ∙ e)) in
-    record {
-      holds = subst (λ (z : ℕ). held_in n c.args.room (set xs z (get_or xs z 0 - 1)) ≡ one_less (cols c.args.set) c.args.row.cells.now (held_in n c.args.room xs)) (sym x) r.0;
-      clean = subst (λ (z : ℕ). Clean n c.args.room xs → Clean n c.args.room (set xs z (get_or xs z 0 - 1))) (sym x) r.1;
-    }
+    (λ e. c.if-times-eq1.false (ap (λ (z : ℕ). get_or xs z 0) x ∙ e)) in (
+      subst (λ (z : ℕ). held_in n c.args.room (set xs z (get_or xs z 0 - 1)) ≡ one_less (cols c.args.set) c.args.row.cells.now (held_in n c.args.room xs)) (sym x) r.0,
+      subst (λ (z : ℕ). Clean n c.args.room xs → Clean n c.args.room (set xs z (get_or xs z 0 - 1))) (sym x) r.1,
+    )

@@ -1,6 +1,6 @@
 use Rattle.std.proofs.Common.{◌≡◌, ℕ, zero, suc, ◌+◌, ◌-◌, ◌*◌, ◌^◌, ◌≤◌, true, false, Bool, leb, ltb, ◌&&◌, List, [], ◌∷◌, length, get_or, take, drop, refl, sym, ap, ◌∙◌, arith, length-take}
 use Rattle.std.proofs.lemmas.Bool.{and_from, le-leb, lt-ltb}
-use Rattle.std.proofs.lemmas.List.{take_rest, length-drop}
+use Rattle.std.proofs.lemmas.List.{length-drop}
 use Rattle.schema.specs.Layout.{all_sets_fit}
 use Rattle.schema.proofs.lent_sets.part_len.Goals as goal
 
@@ -11,11 +11,13 @@ fit_front n zero xs = refl
 fit_front n (suc k) [] = refl
 fit_front n (suc k) (x ∷ xs) = ap (λ b. ltb x (2 ^ n) && b) (fit_front n k xs)
 
-sets_behind : (n k : ℕ) (xs : List ℕ) → 2 * k ≤ length (drop 2 xs)
-    → all_sets_fit n (length (take (2 * k) (take (length xs - 2) (drop 2 xs)))) (take (2 * k) (take (length xs - 2) (drop 2 xs))) ≡ all_sets_fit n (2 * k) (drop 2 xs)
-sets_behind n k xs l =
-    let many : length (take (2 * k) (drop 2 xs)) ≡ 2 * k = omega (arith, length-take (2 * k) (drop 2 xs)) in
-    ap (λ (v : List ℕ). all_sets_fit n (length (take (2 * k) v)) (take (2 * k) v)) (take_rest xs 2)
+-- the sets of a part that is len numbers long
+sets_behind : (n k len : ℕ) (xs : List ℕ) → len ≡ 2 + 2 * k → len ≤ length xs
+    → all_sets_fit n (length (take (len - 2) (drop 2 xs))) (take (len - 2) (drop 2 xs)) ≡ all_sets_fit n (2 * k) (drop 2 xs)
+sets_behind n k len xs e l =
+    let short : len - 2 ≡ 2 * k = omega (arith, e) in
+    let many : length (take (2 * k) (drop 2 xs)) ≡ 2 * k = omega (arith, e, l, length-drop 2 xs, length-take (2 * k) (drop 2 xs)) in
+    ap (λ (j : ℕ). all_sets_fit n (length (take j (drop 2 xs))) (take j (drop 2 xs))) short
     ∙ ap (λ (j : ℕ). all_sets_fit n j (take (2 * k) (drop 2 xs))) many
     ∙ fit_front n (2 * k) (drop 2 xs)
 
@@ -30,7 +32,7 @@ returns-then-not-sets_fit c =
     let xs = c.args.numbers.now in
     let k = get_or xs 1 0 in
     let none : all_sets_fit n (2 * k) (drop 2 xs) ≡ false
-    = sym (c.if-not-sets_fit.ensures ∙ sets_behind n k xs (omega (arith, length-drop 2 xs, c.if-sets-count.false))) in
+    = sym (c.if-not-sets_fit.ensures ∙ sets_behind n k c.in_ok-len.len xs c.in_ok-len.ensures.0 c.in_ok-len.ensures.1) in
     ap (λ (b : Bool). leb (2 + 2 * k) (length xs) && (ltb (get_or xs 0 0) (2 ^ n) && b)) none ∙ and_last _ _
 
 pub returns : goal.returns
@@ -39,10 +41,10 @@ returns c =
     let xs = c.args.numbers.now in
     let k = get_or xs 1 0 in
     let fit : all_sets_fit n (2 * k) (drop 2 xs) ≡ true
-    = sym (c.if-not-sets_fit.ensures ∙ sets_behind n k xs (omega (arith, length-drop 2 xs, c.if-sets-count.false))) in
-    let whole = le-leb (2 + 2 * k) (length xs) (omega (arith, c.if-sets-count.false)) in (
+    = sym (c.if-not-sets_fit.ensures ∙ sets_behind n k c.in_ok-len.len xs c.in_ok-len.ensures.0 c.in_ok-len.ensures.1) in
+    let whole = le-leb (2 + 2 * k) (length xs) (omega (arith, c.in_ok-len.ensures)) in (
       and_from (leb (2 + 2 * k) (length xs)) (ltb (get_or xs 0 0) (2 ^ n) && all_sets_fit n (2 * k) (drop 2 xs)) whole
           (and_from (ltb (get_or xs 0 0) (2 ^ n)) (all_sets_fit n (2 * k) (drop 2 xs)) (lt-ltb (get_or xs 0 0) (2 ^ n) c.in_ok-from_bits.ensures.0) fit),
-      refl,
-      omega (arith, c.if-sets-count.false),
+      c.in_ok-len.ensures.0,
+      c.in_ok-len.ensures.1,
     )

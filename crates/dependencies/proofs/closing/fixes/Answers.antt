@@ -3,10 +3,10 @@ use Rattle.columns.specs.Sets.{cols}
 use Rattle.columns.proofs.Lists.{all_same}
 use Rattle.dependencies.specs.Closure.{closure}
 use Rattle.dependencies.specs.Rules.{deps}
-use Rattle.keys.proofs.fixing.fixes.Goals as goal
+use Rattle.dependencies.proofs.closing.fixes.Goals as goal
 
 pub returns : goal.returns
 returns c =
-    let p = cols c.args.rule.right in
+    let p = cols c.args.right in
     c.is_subset.ensures
-    ∙ all_same p p (cols c.closure.result) (closure (deps c.args.rules.now) (cols c.args.rule.left)) (λ d. refl) c.closure.ensures.computed
+    ∙ all_same p p (cols c.closure.result) (closure (deps c.args.rules.now) (cols c.args.left)) (λ d. refl) c.closure.ensures.computed
