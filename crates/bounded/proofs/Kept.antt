@@ -1,8 +1,7 @@
--- One item more that is tested: it is kept behind the others, or it is not.
-use Rattle.std.proofs.Common.{◌≡◌, ℕ, ◌+◌, ◌<◌, Bool, true, false, List, [], ◌∷◌, ◌++◌, length, filter, take, get_or, refl, sym, ap, ◌∙◌, arith}
-use Rattle.std.proofs.lemmas.List.{take_more}
+-- To keep of a list, cell by cell, what a test holds of: what is kept moves up to the front, in order.
+use Rattle.std.proofs.Common.{◌≡◌, ℕ, ◌+◌, ◌<◌, ◌≤◌, Bool, true, false, List, [], ◌∷◌, ◌++◌, length, filter, take, drop, set, get_or, refl, sym, ap, ◌∙◌, arith}
+use Rattle.std.proofs.lemmas.List.{take_more, drop_more, take_more_set, drop-set-lt, append-nil, length-drop}
 use Rattle.std.proofs.lemmas.List.Elements.{filter-append}
-use Rattle.std.proofs.lemmas.Grind.{common_steps}
 
 one_kept : {X : Type 0} (test : X → Bool) (x : X) → test x ≡ true → filter test (x ∷ []) ≡ x ∷ []
 one_kept test x kept = rw kept refl
@@ -10,12 +9,32 @@ one_kept test x kept = rw kept refl
 one_left : {X : Type 0} (test : X → Bool) (x : X) → test x ≡ false → filter test (x ∷ []) ≡ []
 one_left test x left = rw left refl
 
-module _ {X : Type 0} (test : X → Bool) (all : List X) (i : ℕ) (x : X) (inside : i < length all) (here : x ≡ get_or all i x) where
-  split : filter test (take (i + 1) all) ≡ filter test (take i all) ++ filter test (x ∷ [])
-  split = ap (filter test) (take_more all i x inside ∙ ap (λ (y : X). take i all ++ y ∷ []) (sym here)) ∙ filter-append test (take i all) (x ∷ [])
+-- xs are the cells after i places of all of them
+module _ {X : Type 0} (all xs : List X) (i : ℕ) (x : X) (ahead : drop i xs ≡ drop i all) (inside : i < length xs) (here : x ≡ get_or xs i x) where
+  inside_all : i < length all
+  inside_all = omega (arith, ap length ahead, length-drop i xs, length-drop i all)
 
-  pub kept_more : test x ≡ true → filter test (take (i + 1) all) ≡ filter test (take i all) ++ x ∷ []
-  kept_more kept = split ∙ ap (λ (ys : List X). filter test (take i all) ++ ys) (one_kept test x kept)
+  fronts : x ∷ drop (i + 1) xs ≡ get_or all i x ∷ drop (i + 1) all
+  fronts = ap (λ (y : X). y ∷ drop (i + 1) xs) here ∙ sym (drop_more xs i x inside) ∙ ahead ∙ drop_more all i x inside_all
 
-  pub left_out : test x ≡ false → filter test (take (i + 1) all) ≡ filter test (take i all)
-  left_out left = split ∙ ap (λ (ys : List X). filter test (take i all) ++ ys) (one_left test x left) ∙ grind (arith, common_steps)
+  pub ahead_more : drop (i + 1) xs ≡ drop (i + 1) all
+  ahead_more = let e = fronts in cc
+
+  pub ahead_written : (kept : ℕ) → kept ≤ i → drop (i + 1) (set xs kept x) ≡ drop (i + 1) all
+  ahead_written kept low = drop-set-lt (i + 1) xs kept x (omega (arith, low)) ∙ ahead_more
+
+  split : (test : X → Bool) → filter test (take (i + 1) all) ≡ filter test (take i all) ++ filter test (x ∷ [])
+  split test =
+      let e = fronts in
+      let same : get_or all i x ≡ x = cc in
+      ap (filter test) (take_more all i x inside_all ∙ ap (λ (y : X). take i all ++ y ∷ []) same) ∙ filter-append test (take i all) (x ∷ [])
+
+  module _ (test : X → Bool) (kept : ℕ) (front : take kept xs ≡ filter test (take i all)) where
+    pub kept_more : kept ≤ i → test x ≡ true → take (kept + 1) (set xs kept x) ≡ filter test (take (i + 1) all)
+    kept_more low said =
+        take_more_set xs kept x (omega (arith, low, inside)) ∙ ap (λ (ys : List X). ys ++ x ∷ []) front
+        ∙ sym (split test ∙ ap (λ (ys : List X). filter test (take i all) ++ ys) (one_kept test x said))
+
+    pub left_out : test x ≡ false → take kept xs ≡ filter test (take (i + 1) all)
+    left_out said =
+        front ∙ sym (split test ∙ ap (λ (ys : List X). filter test (take i all) ++ ys) (one_left test x said) ∙ append-nil (filter test (take i all)))

@@ -36,9 +36,10 @@ impl<T: Copy, const N: usize> Bounded<T, N> {
         requires { length (items self.old) + length more.now ≤ N }
         ensures { items self.new ≡ items self.old ++ more.now }
     {
-        for item in more {
-            self.push(*item);
-        }
+        let end = self.count + more.len();
+        let cells = &mut self.cells[..];
+        cells[self.count..end].copy_from_slice(more);
+        self.count = end;
     }
 
     // Keeps the items of which the closure says yes, in their order.
@@ -46,12 +47,15 @@ impl<T: Copy, const N: usize> Bounded<T, N> {
         requires { F.IsAlwaysCallable keep }
         ensures { (test : T → Bool) → ((x : T) (b : Bool) → FnReturnsAt F.Fn keep x b → b ≡ test x) → items self.new ≡ filter test (items self.old) }
     {
-        let all = *self;
-        self.count = 0;
-        for item in all.as_slice() {
-            if keep(item) {
-                self.push(*item);
+        let mut kept = 0;
+        // By its place, since what is kept moves up in the same cells: no list is copied.
+        for i in 0..self.count {
+            let item = self.cells[i];
+            if keep(&item) {
+                self.cells[kept] = item;
+                kept += 1;
             }
         }
+        self.count = kept;
     }
 }

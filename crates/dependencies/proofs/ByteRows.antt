@@ -1,6 +1,6 @@
 -- Rules as bytes: where each number of the row comes from, that the first 66 numbers are enough to read the rules, and that of those only the rules' sets are left to read.
-use Rattle.std.proofs.Common.{◌≡◌, ℕ, zero, suc, ◌+◌, ◌-◌, ◌*◌, ◌/◌, ◌^◌, ◌≤◌, ◌++◌, true, ◌&&◌, ltb, leb, List, [], ◌∷◌, length, get_or, take, drop, Ok, Err, Result, sym, refl, ap, ◌∙◌, inl, inr, arith, length-take}
-use Rattle.std.proofs.lemmas.List.{get_or-take, drop-take}
+use Rattle.std.proofs.Common.{◌≡◌, ℕ, zero, suc, ◌+◌, ◌-◌, ◌*◌, ◌/◌, ◌^◌, ◌<◌, ◌≤◌, min, ◌++◌, true, ◌&&◌, ltb, leb, List, [], ◌∷◌, length, get_or, take, drop, Ok, Err, Result, sym, refl, ap, ◌∙◌, inl, inr, arith, length-append, length-drop, length-take}
+use Rattle.std.proofs.lemmas.List.{get_or-take, get_or-drop, drop-take, take_all, length-take-le, get_or-append_right}
 use Rattle.std.proofs.lemmas.Bool.{le-leb, lt-leb, leb-true, leb-false, cases_Bool, and_parts}
 use Rattle.std.specs.Prelude.{map}
 use Rattle.std.specs.Simd.{first_chunks}
@@ -39,6 +39,50 @@ pub row_pairs : (bs : List ℕ) (pairs : List (List ℕ)) → pairs ≡ first_ch
     → take 2 bs ++ map set_of (take 64 pairs) ≡ take 66 (row_of_bytes bs)
 row_pairs bs pairs e =
     ap (λ (ps : List (List ℕ)). take 2 bs ++ map set_of (take 64 ps)) e ∙ ap (λ (ys : List ℕ). take 2 bs ++ ys) (sets_pairs 64 (drop 2 bs)) ∙ row_start bs
+
+pub sets_length : (bs : List ℕ) → length (sets_in_bytes bs) ≡ length bs / 2
+unfolding sets_in_bytes
+sets_length [] = refl
+sets_length (a ∷ []) = refl
+sets_length (a ∷ (b ∷ bs)) = omega (arith, sets_length bs)
+
+pub sets_at : (bs : List ℕ) (k : ℕ) → 2 * k + 1 < length bs → get_or (sets_in_bytes bs) k 0 ≡ get_or bs (2 * k) 0 + 256 * get_or bs (2 * k + 1) 0
+unfolding sets_in_bytes
+sets_at [] k h = absurd (omega arith)
+sets_at (a ∷ []) k h = absurd (omega arith)
+sets_at (a ∷ (b ∷ bs)) zero h = refl
+sets_at (a ∷ (b ∷ bs)) (suc k) h =
+    let e : 2 * suc k ≡ suc (suc (2 * k)) = omega arith in
+    let f : 2 * suc k + 1 ≡ suc (suc (2 * k + 1)) = omega arith in
+    sets_at bs k (omega arith)
+    ∙ sym (ap (λ x. get_or (a ∷ (b ∷ bs)) x 0 + 256 * get_or (a ∷ (b ∷ bs)) (2 * suc k + 1) 0) e ∙ ap (λ x. get_or bs (2 * k) 0 + 256 * get_or (a ∷ (b ∷ bs)) x 0) f)
+
+pub row_length : (bs : List ℕ) → 2 ≤ length bs → length (row_of_bytes bs) ≡ length bs / 2 + 1
+unfolding row_of_bytes
+row_length bs h =
+    length-append (take 2 bs) (sets_in_bytes (drop 2 bs)) ∙ omega (arith, length-take-le 2 bs h, sets_length (drop 2 bs), length-drop 2 bs)
+
+pub row_at : (bs : List ℕ) (i : ℕ) → 1 ≤ i → 2 * i + 1 < length bs → get_or (row_of_bytes bs) (i + 1) 0 ≡ get_or bs (2 * i) 0 + 256 * get_or bs (2 * i + 1) 0
+unfolding row_of_bytes
+row_at bs i h l =
+    let k = i + 1 - 2 in
+    let even : 2 + 2 * k ≡ 2 * i = omega arith in
+    let odd : 2 + (2 * k + 1) ≡ 2 * i + 1 = omega arith in
+    get_or-append_right (take 2 bs) (sets_in_bytes (drop 2 bs)) 2 (i + 1) 0 (length-take-le 2 bs (omega arith)) (omega arith)
+    ∙ sets_at (drop 2 bs) k (omega (arith, length-drop 2 bs))
+    ∙ ap (λ x. x + 256 * get_or (drop 2 bs) (2 * k + 1) 0) (get_or-drop 2 bs (2 * k) 0 ∙ ap (λ x. get_or bs x 0) even)
+    ∙ ap (λ x. get_or bs (2 * i) 0 + 256 * x) (get_or-drop 2 bs (2 * k + 1) 0 ∙ ap (λ x. get_or bs x 0) odd)
+
+-- as many numbers as the bytes have, or as 32 rules need
+pub row_end : (bs : List ℕ) (end : ℕ) → 2 ≤ length bs → end ≡ min (length bs / 2) 65 → take (end + 1) (row_of_bytes bs) ≡ take 66 (row_of_bytes bs)
+row_end bs end h e =
+    elim (cases_Bool (leb 65 (length bs / 2))) [
+      | inl t ↦ let l = leb-true 65 (length bs / 2) t in let q : end + 1 ≡ 66 = omega arith in ap (λ k. take k (row_of_bytes bs)) q
+      | inr t ↦
+          let l = leb-false 65 (length bs / 2) t in
+          let n = row_length bs h in
+          take_all (end + 1) (row_of_bytes bs) (omega arith) ∙ sym (take_all 66 (row_of_bytes bs) (omega arith))
+    ]
 
 -- ---- reading needs no more than 66 numbers
 drop_take_one : (m : ℕ) (ys : List ℕ) → drop 1 (take (suc m) ys) ≡ take m (drop 1 ys)

@@ -1,6 +1,6 @@
 -- Lists written into lent rows, one after the other.
-use Rattle.std.proofs.Common.{◌≡◌, ℕ, suc, ◌+◌, ◌≤◌, List, [], ◌∷◌, ◌++◌, length, drop, set, refl, ap, ◌∙◌, arith}
-use Rattle.std.proofs.lemmas.List.{length-set}
+use Rattle.std.proofs.Common.{◌≡◌, ℕ, suc, ◌+◌, ◌<◌, ◌≤◌, List, [], ◌∷◌, ◌++◌, length, take, drop, set, refl, ap, ◌∙◌, arith}
+use Rattle.std.proofs.lemmas.List.{length-set, set_past}
 use Rattle.dependencies.specs.Lent.{put_list}
 
 pub length_put : (xs : List ℕ) (n : ℕ) (ys : List ℕ) → length (put_list xs n ys) ≡ length xs
@@ -23,3 +23,14 @@ unfolding put_list
 put_fits xs [] h = refl
 put_fits [] (y ∷ ys) h = absurd (omega arith)
 put_fits (x ∷ xs) (y ∷ ys) h = put_cons y xs 0 ys ∙ ap (λ v. y ∷ v) (put_fits xs ys (omega arith))
+
+pub put_full : (xs : List ℕ) (n : ℕ) (ys : List ℕ) → length xs ≤ n → put_list xs n ys ≡ xs
+unfolding put_list
+put_full xs n [] h = refl
+put_full xs n (y ∷ ys) h = rw (set_past xs n y h) (put_full xs (suc n) ys (omega arith))
+
+pub put_cut : (xs ys : List ℕ) → length xs < length ys → put_list xs 0 ys ≡ take (length xs) ys
+unfolding put_list
+put_cut xs [] h = absurd (omega arith)
+put_cut [] (y ∷ ys) h = put_full [] 1 ys (omega arith)
+put_cut (x ∷ xs) (y ∷ ys) h = put_cons y xs 0 ys ∙ ap (λ v. y ∷ v) (put_cut xs ys (omega arith))

@@ -10,6 +10,9 @@ use Rattle.dependencies.specs.Closure.{round, rounds, closure}
 use Rattle.dependencies.specs.Rules.{dep, deps}
 use Rattle.dependencies.specs.declared.rules.Rule.{Rule}
 
+pub same_sym : (xs ys : Cols) → Same xs ys → Same ys xs
+same_sym xs ys p c = sym (p c)
+
 pub same_trans : (xs ys zs : Cols) → Same xs ys → Same ys zs → Same xs zs
 same_trans xs ys zs p q c = p c ∙ q c
 

@@ -23,6 +23,28 @@ fn refusals(rt: HostRuntime) {
     assert_eq!(rt; told(read_rules(&[1, 0])), None);
 }
 
+// The numbers that the crates above tell, written out: those of the conditions, and those of rows that are put in or taken out.
+#[test]
+fn numbers_and_places(rt: HostRuntime) {
+    assert_eq!(rt; Condition::Covers.number(), 1);
+    assert_eq!(rt; Condition::NoneInside.number(), 2);
+    assert_eq!(rt; Condition::Lossless.number(), 3);
+    assert_eq!(rt; Condition::RulesKept.number(), 4);
+    assert_eq!(rt; Condition::ThirdForm.number(), 5);
+    assert_eq!(rt;
+        told::<()>(Err(Refusal::NotADesign(Condition::Covers))),
+        Some((6, 1))
+    );
+    assert_eq!(rt; told::<()>(Err(Refusal::Cells(5))), Some((7, 5)));
+    assert_eq!(rt; told::<()>(Err(Refusal::Present)), Some((8, 0)));
+    assert_eq!(rt;
+        told::<()>(Err(Refusal::Broken { part: 1, rule: 0 })),
+        Some((9, 64))
+    );
+    assert_eq!(rt; told::<()>(Err(Refusal::Absent)), Some((10, 0)));
+    assert_eq!(rt; told::<()>(Err(Refusal::PartFull(2))), Some((11, 2)));
+}
+
 #[test]
 fn many_rules(rt: HostRuntime) {
     let mut lent = [1u64; 66];

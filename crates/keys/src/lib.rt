@@ -16,5 +16,5 @@ mod theorems;
 
 pub use first::first_key;
 pub use listing::{candidate_keys, write_keys};
-pub use text::KeysLine;
+pub use text::{KeyLead, KeysLine};
 pub use theorems::{keys_are_one, keys_exist};

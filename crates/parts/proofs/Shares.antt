@@ -80,10 +80,10 @@ pub record SoFar (one : Cols → Row → List Held → List Held) (n room : ℕ)
   pub changed : (q : ℕ) → q < p → Changed one n room (design_in n d) e r q (take (room * (n + 1)) (drop (q * (room * (n + 1))) xs))
   pub same : drop (p * (room * (n + 1))) xs ≡ drop (p * (room * (n + 1))) e
 
-same_head : {a b : Part} {xs ys : List Part} → a ∷ xs ≡ b ∷ ys → a ≡ b
+pub same_head : {a b : Part} {xs ys : List Part} → a ∷ xs ≡ b ∷ ys → a ≡ b
 same_head q = cc
 
-same_tail : {a b : Part} {xs ys : List Part} → a ∷ xs ≡ b ∷ ys → xs ≡ ys
+pub same_tail : {a b : Part} {xs ys : List Part} → a ∷ xs ≡ b ∷ ys → xs ≡ ys
 same_tail q = cc
 
 module _ (one : Cols → Row → List Held → List Held) (n room : ℕ) (d e : List ℕ) (r : Row) (is : room ≡ room_of n d e) where
@@ -100,7 +100,7 @@ module _ (one : Cols → Row → List Held → List Held) (n room : ℕ) (d e : 
   fits_all = subst (λ (z : ℕ). K * (z * (n + 1)) ≤ length e) (sym is) (shares_fit (length e) K (n + 1))
 
   module _ (p : ℕ) (left : List Part) (part : Part) (behind : List Part) (xs : List ℕ) (l : p < K) (w : SoFar one n room d e r p left xs) (turn : left ≡ part ∷ behind) (long : length xs ≡ length e) where
-    share_fits : p * S + S ≤ length xs
+    pub share_fits : p * S + S ≤ length xs
     share_fits = let a = row_fits p K S l in let b = fits_all in omega arith
 
     both : get_or PS p no_part ∷ drop (p + 1) PS ≡ part ∷ behind

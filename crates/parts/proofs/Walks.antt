@@ -29,12 +29,12 @@ shares_fit g k w =
 abbrev pub part_in : ℕ → List ℕ → Part
 part_in n xs = record { cols = set_in 0 n (get_or xs 0 0); rules = rules_in n (get_or xs 1 0) (drop 2 xs) }
 
-parts_more : (n m : ℕ) (xs : List ℕ) → 0 < m → parts_in n m xs ≡ part_in n xs ∷ parts_in n (m - 1) (drop (2 + 2 * get_or xs 1 0) xs)
+pub parts_more : (n m : ℕ) (xs : List ℕ) → 0 < m → parts_in n m xs ≡ part_in n xs ∷ parts_in n (m - 1) (drop (2 + 2 * get_or xs 1 0) xs)
 unfolding parts_in
 parts_more n zero xs l = absurd (omega arith)
 parts_more n (suc m) xs l = let z : m ≡ suc m - 1 = omega arith in ap (λ (k : ℕ). part_in n xs ∷ parts_in n k (drop (2 + 2 * get_or xs 1 0) xs)) z
 
-cells_more : (n room m : ℕ) (xs : List ℕ) → 0 < m
+pub cells_more : (n room m : ℕ) (xs : List ℕ) → 0 < m
     → all_held n room m xs ≡ held_in n room (take (room * (n + 1)) xs) ∷ all_held n room (m - 1) (drop (room * (n + 1)) xs)
 unfolding all_held
 cells_more n room zero xs l = absurd (omega arith)

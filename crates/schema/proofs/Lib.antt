@@ -18,3 +18,4 @@ pub mod Telling
 pub mod PartText
 pub mod PlanText
 pub mod PartEnds
+pub mod FittingSets

@@ -8,8 +8,15 @@ use Rattle.dependencies.specs.Shown.{rule_text}
 use Rattle.dependencies.specs.declared.rules.Rule.{Rule}
 use Rattle.schema.specs.Design.{Part}
 use Rattle.schema.specs.Writing.{own}
+use Rattle.schema.specs.declared.part_text.Lead.{Lead}
+use Rattle.schema.specs.declared.part_text.Lead.TheVariants.{By, Space}
 
--- a part as one line, without its end: the first rule is led in by the word "by"
+-- what stands before a rule: the first is led in by the word "by"
+abbrev pub lead_text : Lead → List ℕ
+lead_text By = codes " by "
+lead_text Space = codes " "
+
+-- a part as one line, without its end
 abbrev pub text_of_part : Part → List ℕ
 text_of_part p = listed p.cols ++ led rule_text (codes " by ") (codes " ") p.rules
 

@@ -5,6 +5,7 @@ ghost use Rattle.schema.specs.Designed.{Designed, DesignTold};
 
 use crate::designing::design;
 use crate::layout::write_parts;
+use crate::plan::Plan;
 use crate::unplaced::Unplaced;
 use dependencies::{Refusal, RuleSet, read_rules};
 
@@ -13,9 +14,9 @@ fn write_design(set: &RuleSet, out: &mut [u64]) -> u64
     requires { 2100 ≤ length out.old }
     ensures { (rules : List ℕ) → Reads rules (Ok set.now) → Designed rules out.old result out.new }
 {
-    let plan = design(set);
-    let sets = plan.sets();
-    write_parts(sets, Unplaced::all(plan.rules()), out);
+    let Plan { cover, sets } = design(set);
+    let sets = sets.sets();
+    write_parts(sets, Unplaced::all(cover.rules()), out);
     sets.len() as u64
 }
 

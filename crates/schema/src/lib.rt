@@ -18,7 +18,7 @@ pub use designing::design;
 pub use extents::design_extent;
 pub use lent::design_for;
 pub use lent_sets::part_len;
-pub use part_text::PartLine;
+pub use part_text::{Lead, PartLine};
 pub use plan::Plan;
 pub use theorems::{design_always_exists, design_always_fits, key_part_enough, two_parts_lossless};
 

@@ -1,11 +1,29 @@
 // A part of a design as text, as `0 1 3 by 0>1 0>3`.
 ghost use Rattle.std.specs.Prelude.{Some};
-ghost use Rattle.schema.specs.Shown.{text_of_part, part_of};
+ghost use Rattle.schema.specs.Shown.{lead_text, text_of_part, part_of};
 
 use crate::layout::lies;
 use columns::ColumnSet;
 use dependencies::Rule;
 use std::fmt;
+
+// What stands before a rule.
+#[derive(Clone, Copy)]
+pub enum Lead {
+    By,
+    Space,
+}
+
+impl fmt::Display for Lead {
+    ghost output = { λ l. Some (lead_text l) };
+
+    fn fmt<W: fmt::Write>(&self, f: &mut fmt::Formatter<W>) -> fmt::Result {
+        match self {
+            Lead::By => write!(f, " by "),
+            Lead::Space => write!(f, " "),
+        }
+    }
+}
 
 // The part of a set, which owns those of the rules that lie in it.
 #[derive(Clone, Copy)]
@@ -20,12 +38,11 @@ impl<'a> fmt::Display for PartLine<'a> {
     fn fmt<W: fmt::Write>(&self, f: &mut fmt::Formatter<W>) -> fmt::Result {
         let set = self.set;
         write!(f, "{set}")?;
-        // The first rule is led in by a word.
-        let mut lead = " by ";
+        let mut lead = Lead::By;
         for rule in self.rules {
             if lies(*rule, set) {
                 write!(f, "{lead}{rule}")?;
-                lead = " ";
+                lead = Lead::Space;
             }
         }
         Ok(())

@@ -151,6 +151,7 @@ fn parts_of_a_row(rt: HostRuntime) -> Result<(), Fail> {
     assert_eq!(rt; part_len(&[1, 2, 1, 2], three), None);
     assert_eq!(rt; part_len(&[3, 1, 1, 8], three), None);
     assert_eq!(rt; part_len(&[8, 0], three), None);
+    assert_eq!(rt; part_len(&[65537, 0], three), None);
     assert_eq!(rt; part_len(&[3], three), None);
     Ok(())
 }

@@ -3,7 +3,6 @@ use crate::plain_rules::{
     PlainRule, PlainRules, ShownSet, all_columns, has, is_inside, push_rules,
 };
 use crate::small_tables::{COLUMNS, SmallTable, SmallTables};
-use dependencies::Condition;
 use std::alloc::{AllocError, Global};
 use std::fmt;
 
@@ -16,6 +15,22 @@ pub struct PlainPart {
 #[derive(Drop)]
 pub struct PlainDesign {
     pub parts: Vec<PlainPart>,
+}
+
+// The condition that a splitting misses, in the order of their numbers. It is written apart from that of the crates, with which it is compared.
+#[derive(Clone, Copy, PartialEq, Eq, Debug)]
+pub enum Missed {
+    Covered = 1,
+    Apart = 2,
+    Joined = 3,
+    Kept = 4,
+    Normal = 5,
+}
+
+impl Missed {
+    pub fn number(self) -> u64 {
+        self as u64
+    }
 }
 
 // Those of the tables that obey the given rules; what follows from the rules is what all of them obey.
@@ -201,21 +216,21 @@ impl PlainDesign {
         tables: &SmallTables,
         obeying: &Obeying,
         rules: &PlainRules,
-    ) -> Result<(), Condition> {
+    ) -> Result<(), Missed> {
         if !self.covers(rules.columns) {
-            return Err(Condition::Covers);
+            return Err(Missed::Covered);
         }
         if !self.none_inside() {
-            return Err(Condition::NoneInside);
+            return Err(Missed::Apart);
         }
         if !self.loses_nothing(tables, obeying) {
-            return Err(Condition::Lossless);
+            return Err(Missed::Joined);
         }
         if !self.keeps_rules(tables, rules) {
-            return Err(Condition::RulesKept);
+            return Err(Missed::Kept);
         }
         if !self.is_in_third_form(obeying) {
-            return Err(Condition::ThirdForm);
+            return Err(Missed::Normal);
         }
         Ok(())
     }

@@ -1,11 +1,11 @@
 // Random splittings of small tables through the tester of designs, beside the five conditions by their words.
 use crate::generator::Random;
-use crate::plain_design::{Obeying, PlainDesign};
+use crate::plain_design::{Missed, Obeying, PlainDesign};
 use crate::plain_rules::{PlainRules, Size, random_rules};
 use crate::small_tables::{COLUMNS, SmallTables, all_small_tables};
 use crate::splittings::random_splitting;
 use anyhow::anyhow;
-use dependencies::{Condition, Refusal};
+use dependencies::Refusal;
 use std::alloc::{AllocError, Global};
 use std::fmt;
 use verdict::{CheckFailure, check_design};
@@ -28,11 +28,11 @@ struct Tally {
 }
 
 impl Tally {
-    fn count(&mut self, verdict: Result<(), Condition>) {
+    fn count(&mut self, verdict: Result<(), Missed>) {
         match verdict {
             Ok(()) => self.designs = self.designs.saturating_add(1),
-            Err(condition) => {
-                let place = condition.number().saturating_sub(1) as usize;
+            Err(missed) => {
+                let place = missed.number().saturating_sub(1) as usize;
                 if let Some(count) = self.missed.get_mut(place) {
                     *count = count.saturating_add(1);
                 }
@@ -65,6 +65,17 @@ fn asked(
     Ok(check_design(rules.as_slice(), design.as_slice(), &mut tableau))
 }
 
+// Whether both sides say that it is a design, or the same number of the first condition that it misses.
+fn same(plain: Result<(), Missed>, proved: Result<(), CheckFailure>) -> bool {
+    match (plain, proved) {
+        (Ok(()), Ok(())) => true,
+        (Err(missed), Err(CheckFailure::Refused(Refusal::NotADesign(condition)))) => {
+            missed.number() == condition.number()
+        }
+        _ => false,
+    }
+}
+
 fn show(rt: &HostRuntime, rules: &PlainRules, design: &PlainDesign) -> anyhow::Result<()> {
     println!(rt; "verdicts: a difference with {rules}")?;
     for part in design.parts.iter() {
@@ -89,7 +100,7 @@ fn agrees(
         let design = random_splitting(rt.alloc(), random, &rules, &obeying)?;
         let plain = design.verdict(tables, &obeying, &rules);
         let proved = asked(rt.alloc(), &rules, &design)?;
-        if plain.map_err(|missed| CheckFailure::Refused(Refusal::NotADesign(missed))) != proved {
+        if !same(plain, proved) {
             show(rt, &rules, &design)?;
             println!(rt; "  by small tables {plain:?}, by check_design {proved:?}")?;
             return Ok(false);

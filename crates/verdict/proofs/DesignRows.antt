@@ -5,7 +5,7 @@ use Rattle.std.proofs.lemmas.List.{map-append, length-map, take_all, drop_all, d
 use Rattle.std.proofs.lemmas.Bool.{leb-true, leb-false, cases_Bool}
 use Rattle.dependencies.specs.Bytes.{sets_in_bytes}
 use Rattle.dependencies.specs.Lent.{put_list}
-use Rattle.dependencies.proofs.ByteRows.{set_of}
+use Rattle.dependencies.proofs.ByteRows.{set_of, sets_length}
 use Rattle.dependencies.proofs.Lent.{put_append}
 use Rattle.verdict.specs.DesignBytes.{parts_of_bytes, design_of_bytes}
 
@@ -57,12 +57,6 @@ parts_ended (suc k) (a ∷ (b ∷ [])) h = refl
 parts_ended (suc k) (a ∷ (b ∷ (c ∷ bs))) h = absurd (omega arith)
 
 -- ---- the numbers of pairs of bytes
-sets_length : (bs : List ℕ) → length (sets_in_bytes bs) ≡ length bs / 2
-unfolding sets_in_bytes
-sets_length [] = refl
-sets_length (a ∷ []) = refl
-sets_length (a ∷ (b ∷ bs)) = omega (arith, sets_length bs)
-
 pub all_pairs : (bs : List ℕ) → map set_of (first_chunks 2 (length bs / 2) bs) ≡ sets_in_bytes bs
 unfolding sets_in_bytes
 all_pairs [] = refl

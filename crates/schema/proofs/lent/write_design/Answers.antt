@@ -15,8 +15,8 @@ use Rattle.schema.proofs.lent.write_design.Goals as goal
 pub returns : goal.returns
 returns c rules read =
     let t = c.args.set.now in
-    let p = c.design-plan.result in
-    let plan = c.design-plan.ensures in
+    let p = c.design.result in
+    let plan = c.design.ensures in
     let rs : List Rule = plan_rules p in
     let ss : List ColumnSet = plan_sets p in
     let out : List ℕ = c.args.out.now in

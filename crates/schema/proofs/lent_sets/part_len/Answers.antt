@@ -1,15 +1,9 @@
-use Rattle.std.proofs.Common.{◌≡◌, ℕ, zero, suc, ◌+◌, ◌-◌, ◌*◌, ◌^◌, ◌≤◌, true, false, Bool, leb, ltb, ◌&&◌, List, [], ◌∷◌, length, get_or, take, drop, refl, sym, ap, ◌∙◌, arith, length-take}
+use Rattle.std.proofs.Common.{◌≡◌, ℕ, ◌+◌, ◌-◌, ◌*◌, ◌^◌, ◌≤◌, true, false, Bool, leb, ltb, ◌&&◌, List, length, get_or, take, drop, refl, sym, ap, ◌∙◌, arith, length-take}
 use Rattle.std.proofs.lemmas.Bool.{and_from, le-leb, lt-ltb}
 use Rattle.std.proofs.lemmas.List.{length-drop}
 use Rattle.schema.specs.Layout.{all_sets_fit}
+use Rattle.schema.proofs.FittingSets.{fit_front}
 use Rattle.schema.proofs.lent_sets.part_len.Goals as goal
-
--- no more than the first k numbers are looked at
-fit_front : (n k : ℕ) (xs : List ℕ) → all_sets_fit n k (take k xs) ≡ all_sets_fit n k xs
-unfolding all_sets_fit
-fit_front n zero xs = refl
-fit_front n (suc k) [] = refl
-fit_front n (suc k) (x ∷ xs) = ap (λ b. ltb x (2 ^ n) && b) (fit_front n k xs)
 
 -- the sets of a part that is len numbers long
 sets_behind : (n k len : ℕ) (xs : List ℕ) → len ≡ 2 + 2 * k → len ≤ length xs
