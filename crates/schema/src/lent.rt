@@ -14,6 +14,7 @@ fn write_design(set: &RuleSet, out: &mut [u64]) -> u64
     requires { 2100 ≤ length out.old }
     ensures { (rules : List ℕ) → Reads rules (Ok set.now) → Designed rules out.old result out.new }
 {
+    // Taken apart, since a plan that is kept whole is blanked and copied once more.
     let Plan { cover, sets } = design(set);
     let sets = sets.sets();
     write_parts(sets, Unplaced::all(cover.rules()), out);

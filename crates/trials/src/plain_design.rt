@@ -17,14 +17,14 @@ pub struct PlainDesign {
     pub parts: Vec<PlainPart>,
 }
 
-// The condition that a splitting misses, in the order of their numbers. It is written apart from that of the crates, with which it is compared.
+// The conditions that a splitting may miss, by their numbers: written apart from those of the crates, which are compared with them.
 #[derive(Clone, Copy, PartialEq, Eq, Debug)]
 pub enum Missed {
-    Covered = 1,
-    Apart = 2,
-    Joined = 3,
-    Kept = 4,
-    Normal = 5,
+    Covers = 1,
+    NoneInside = 2,
+    Lossless = 3,
+    RulesKept = 4,
+    ThirdForm = 5,
 }
 
 impl Missed {
@@ -218,19 +218,19 @@ impl PlainDesign {
         rules: &PlainRules,
     ) -> Result<(), Missed> {
         if !self.covers(rules.columns) {
-            return Err(Missed::Covered);
+            return Err(Missed::Covers);
         }
         if !self.none_inside() {
-            return Err(Missed::Apart);
+            return Err(Missed::NoneInside);
         }
         if !self.loses_nothing(tables, obeying) {
-            return Err(Missed::Joined);
+            return Err(Missed::Lossless);
         }
         if !self.keeps_rules(tables, rules) {
-            return Err(Missed::Kept);
+            return Err(Missed::RulesKept);
         }
         if !self.is_in_third_form(obeying) {
-            return Err(Missed::Normal);
+            return Err(Missed::ThirdForm);
         }
         Ok(())
     }

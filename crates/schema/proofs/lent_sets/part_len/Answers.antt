@@ -1,19 +1,14 @@
-use Rattle.std.proofs.Common.{◌≡◌, ℕ, ◌+◌, ◌-◌, ◌*◌, ◌^◌, ◌≤◌, true, false, Bool, leb, ltb, ◌&&◌, List, length, get_or, take, drop, refl, sym, ap, ◌∙◌, arith, length-take}
+use Rattle.std.proofs.Common.{◌≡◌, ℕ, ◌+◌, ◌-◌, ◌*◌, ◌^◌, ◌≤◌, true, false, Bool, leb, ltb, ◌&&◌, List, length, get_or, take, drop, refl, sym, ap, ◌∙◌, arith}
 use Rattle.std.proofs.lemmas.Bool.{and_from, le-leb, lt-ltb}
-use Rattle.std.proofs.lemmas.List.{length-drop}
 use Rattle.schema.specs.Layout.{all_sets_fit}
-use Rattle.schema.proofs.FittingSets.{fit_front}
+use Rattle.schema.proofs.FittingSets.{fit_behind}
 use Rattle.schema.proofs.lent_sets.part_len.Goals as goal
 
 -- the sets of a part that is len numbers long
 sets_behind : (n k len : ℕ) (xs : List ℕ) → len ≡ 2 + 2 * k → len ≤ length xs
     → all_sets_fit n (length (take (len - 2) (drop 2 xs))) (take (len - 2) (drop 2 xs)) ≡ all_sets_fit n (2 * k) (drop 2 xs)
 sets_behind n k len xs e l =
-    let short : len - 2 ≡ 2 * k = omega (arith, e) in
-    let many : length (take (2 * k) (drop 2 xs)) ≡ 2 * k = omega (arith, e, l, length-drop 2 xs, length-take (2 * k) (drop 2 xs)) in
-    ap (λ (j : ℕ). all_sets_fit n (length (take j (drop 2 xs))) (take j (drop 2 xs))) short
-    ∙ ap (λ (j : ℕ). all_sets_fit n j (take (2 * k) (drop 2 xs))) many
-    ∙ fit_front n (2 * k) (drop 2 xs)
+    ap (λ (j : ℕ). all_sets_fit n (length (take (j - 2) (drop 2 xs))) (take (j - 2) (drop 2 xs))) e ∙ fit_behind n (2 * k) xs (omega (arith, e, l))
 
 and_last : (a b : Bool) → (a && (b && false)) ≡ false
 and_last true true = refl
